@@ -12,6 +12,7 @@ mod copy;
 mod lifecycle;
 mod name;
 mod number;
+mod operation;
 mod seq;
 mod text;
 
@@ -19,5 +20,6 @@ pub use copy::{Same, TryCopy};
 pub use lifecycle::Lifecycle;
 pub use name::Name;
 pub use number::{ClassId, EdgeId, FieldId, MethodId, NodeId, Reg, SiteId};
+pub use operation::{ArithOp, Elem, NarrowOp, Relation};
 pub use seq::Seq;
 pub use text::Text;
