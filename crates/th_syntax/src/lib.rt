@@ -10,11 +10,13 @@
 #![tactic(auto)]
 
 mod class_file;
+mod flags;
 mod instr;
 mod layout;
 mod refusal;
 
 pub use class_file::{ClassFile, Code, Constant, Member};
+pub use flags::{ACC_ABSTRACT, ACC_INTERFACE, ACC_NATIVE, ACC_STATIC, has_flag};
 pub use instr::{Instr, MemberRef, Primitive, StackOp};
 pub use layout::{FieldLayout, FileLayout, Group, MethodLayout, PoolEntry};
 pub use refusal::{Flaw, Refusal};
