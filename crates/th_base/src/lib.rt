@@ -11,6 +11,7 @@
 
 mod class;
 mod copy;
+mod id_set;
 mod kind;
 mod lifecycle;
 mod name;
@@ -20,6 +21,7 @@ mod text;
 
 pub use class::{ClassInfo, FieldInfo, MethodInfo};
 pub use copy::{Same, TryCopy};
+pub use id_set::IdSet;
 pub use kind::{ArithOp, Elem, NarrowOp, Relation};
 pub use lifecycle::Lifecycle;
 pub use name::Name;
