@@ -1,18 +1,18 @@
 -- Ascending lists of numbers: two that have the same members are one list.
-use Rattle.std.proofs.Common.{◌≡◌, ℕ, ◌+◌, ◌<◌, ◌≤◌, zero, suc, Bool, true, false, cond, eqb, ltb, not, ◌||◌, ◌&&◌, List, [], ◌∷◌, ◌++◌, length, take, drop, get_or, Result, Ok, Err, is_ok, refl, sym, ap, ◌∙◌, subst, inl, inr, arith}
-use Rattle.std.specs.List.{filter, list_any, AllByRecursion, insert}
+use Rattle.std.proofs.Common.{◌≡◌, ℕ, ◌+◌, ◌<◌, ◌≤◌, zero, suc, Bool, true, false, cond, eqb, ltb, ◌||◌, ◌&&◌, List, [], ◌∷◌, ◌++◌, length, take, drop, get_or, Result, Ok, Err, is_ok, refl, sym, ap, ◌∙◌, subst, inl, inr, arith}
+use Rattle.std.specs.List.{filter, AllByRecursion, insert}
 use Rattle.std.specs.List.Sorted.{IsBinarySearchResult}
 use Rattle.std.specs.Result.{MatchResult}
 use Rattle.std.specs.Ordering.{nat_cmp}
-use Rattle.std.proofs.lemmas.Bool.{ltb-true, ltb-false, lt-ltb, le-ltb, eqb-true, eqb-false, eq-eqb, ne_eqb, cases_order, cases_Bool, or_cases, or_parts, or_left, or_right, both_ways, cond-true, cond-false}
+use Rattle.std.proofs.lemmas.Bool.{ltb-true, lt-ltb, le-ltb, eqb-true, eq-eqb, ne_eqb, cases_order, cases_Bool, or_right, both_ways}
 use Rattle.std.proofs.lemmas.List.{append-nil, length-drop, get_or-drop, take-append-drop}
 use Rattle.std.proofs.lemmas.List.Elements.{filter-append}
 use Rattle.std.proofs.lemmas.List.Sorted.{searched}
-use Rattle.th_base.specs.IdSet.{has, IsAscending, inserted, union_of, intersection_of}
+use Rattle.th_base.specs.IdSet.{has, IsAscending, inserted, union_of}
 
 -- ---- what holds of each number
 
-all_weaker : (P Q : ℕ → Type 0) → ((y : ℕ) → P y → Q y) → (xs : List ℕ) → AllByRecursion P xs → AllByRecursion Q xs
+pub all_weaker : (P Q : ℕ → Type 0) → ((y : ℕ) → P y → Q y) → (xs : List ℕ) → AllByRecursion P xs → AllByRecursion Q xs
 all_weaker P Q f [] a = tt
 all_weaker P Q f (x ∷ xs) a = (f x a.0, all_weaker P Q f xs a.1)
 
@@ -57,7 +57,7 @@ has-append [] ys x = refl
 has-append (z ∷ zs) ys x = ap (λ b. eqb z x || b) (has-append zs ys x) ∙ or_assoc (eqb z x) (has zs x) (has ys x)
 
 -- no number that is above all is in the list
-absent_below : (x : ℕ) (xs : List ℕ) → AllByRecursion (λ y. x < y) xs → has xs x ≡ false
+pub absent_below : (x : ℕ) (xs : List ℕ) → AllByRecursion (λ y. x < y) xs → has xs x ≡ false
 absent_below x [] a = refl
 absent_below x (y ∷ ys) a = let h : x < y = a.0 in rw (ne_eqb y x (omega arith), absent_below x ys a.1) refl
 
@@ -90,11 +90,11 @@ pub has-inserted : (y : ℕ) (xs : List ℕ) (x : ℕ) → has (inserted y xs) x
 has-inserted y xs x =
     has-append (filter (λ z. ltb z y) xs) (y ∷ filter (λ z. ltb y z) xs) x
     ∙ rw (has-filter (λ z. ltb z y) xs x, has-filter (λ z. ltb y z) xs x) (
-      elim (cases_order x y) [
-        | inl e ↦ rw (eq-eqb y x (sym e), le-ltb x y (omega arith)) refl
-        | inr (inl less) ↦ rw (ne_eqb y x (omega arith), lt-ltb x y less, le-ltb y x (omega arith)) (elim (has xs x) as (λ b. (b || false) ≡ b) [ true ↦ refl | false ↦ refl ])
-        | inr (inr more) ↦ rw (ne_eqb y x (omega arith), le-ltb x y (omega arith), lt-ltb y x more) refl
-      ])
+    elim (cases_order x y) [
+      | inl e ↦ rw (eq-eqb y x (sym e), le-ltb x y (omega arith)) refl
+      | inr (inl less) ↦ rw (ne_eqb y x (omega arith), lt-ltb x y less, le-ltb y x (omega arith)) (elim (has xs x) as (λ b. (b || false) ≡ b) [ true ↦ refl | false ↦ refl ])
+      | inr (inr more) ↦ rw (ne_eqb y x (omega arith), le-ltb x y (omega arith), lt-ltb y x more) refl
+    ])
 
 or_middle : (a b c : Bool) → (a || (b || c)) ≡ (b || (a || c))
 or_middle true true c = refl
@@ -125,9 +125,10 @@ pub IsAscending-around : (x : ℕ) (ls rs : List ℕ) → IsAscending ls → IsA
     → IsAscending (ls ++ x ∷ rs)
 IsAscending-around x [] rs l r below above = (above, r)
 IsAscending-around x (y ∷ ys) rs l r below above =
-    let h : y < x = below.0 in
-    (all_append (λ z. y < z) ys (x ∷ rs) l.0 (h, all_weaker (λ z. x < z) (λ z. y < z) (λ z g. omega arith) rs above)
-    , IsAscending-around x ys rs l.1 r below.1 above)
+    let h : y < x = below.0 in (
+      all_append (λ z. y < z) ys (x ∷ rs) l.0 (h, all_weaker (λ z. x < z) (λ z. y < z) (λ z g. omega arith) rs above),
+      IsAscending-around x ys rs l.1 r below.1 above,
+    )
 
 pub IsAscending-inserted : (x : ℕ) (xs : List ℕ) → IsAscending xs → IsAscending (inserted x xs)
 IsAscending-inserted x xs a =
@@ -150,16 +151,16 @@ first_same x y xs ys a b same =
     elim (cases_order x y) [
       | inl e ↦ e
       | inr (inl less) ↦
-        absurd (both_ways _ (absent_below x (y ∷ ys) (less, all_weaker (λ z. y < z) (λ z. x < z) (λ z g. omega arith) ys b.0)) (sym (same x) ∙ has_first x xs))
+          absurd (both_ways _ (absent_below x (y ∷ ys) (less, all_weaker (λ z. y < z) (λ z. x < z) (λ z g. omega arith) ys b.0)) (sym (same x) ∙ has_first x xs))
       | inr (inr more) ↦
-        absurd (both_ways _ (absent_below y (x ∷ xs) (more, all_weaker (λ z. x < z) (λ z. y < z) (λ z g. omega arith) xs a.0)) (same y ∙ has_first y ys))
+          absurd (both_ways _ (absent_below y (x ∷ xs) (more, all_weaker (λ z. x < z) (λ z. y < z) (λ z g. omega arith) xs a.0)) (same y ∙ has_first y ys))
     ]
 
 rest_same : (x z : ℕ) (xs ys : List ℕ) → AllByRecursion (λ w. x < w) xs → AllByRecursion (λ w. x < w) ys → has (x ∷ xs) z ≡ has (x ∷ ys) z → has xs z ≡ has ys z
 rest_same x z xs ys a b e =
     elim (cases_Bool (eqb x z)) [
       | inl same ↦ let q : x ≡ z = eqb-true x z same in
-        subst (λ w. has xs w ≡ has ys w) q (absent_below x xs a ∙ sym (absent_below x ys b))
+          subst (λ w. has xs w ≡ has ys w) q (absent_below x xs a ∙ sym (absent_below x ys b))
       | inr other ↦ rw other at e
     ]
 
@@ -232,10 +233,11 @@ found_by xs x (Ok i) h = has_at xs x i h.0 h.1
 found_by xs x (Err i) h =
     let below : AllByRecursion (λ y. y < x) (take i xs) = front_below x i xs h.0 h.1 in
     let above : AllByRecursion (λ y. x < y) (drop i xs) =
-        back_above x (drop i xs) (λ k g. rw (get_or-drop i xs k 0) (h.2 (i + k) (omega arith) (omega (arith, length-drop i xs)))) in
-    (h.0
-    , sym (inserted_between x (take i xs) (drop i xs) below above) ∙ ap (λ l. inserted x l) (take-append-drop i xs)
-    , ap (λ l. has l x) (sym (take-append-drop i xs)) ∙ absent_between x (take i xs) (drop i xs) below above)
+    back_above x (drop i xs) (λ k g. rw (get_or-drop i xs k 0) (h.2 (i + k) (omega arith) (omega (arith, length-drop i xs)))) in (
+      h.0,
+      sym (inserted_between x (take i xs) (drop i xs) below above) ∙ ap (λ l. inserted x l) (take-append-drop i xs),
+      ap (λ l. has l x) (sym (take-append-drop i xs)) ∙ absent_between x (take i xs) (drop i xs) below above,
+    )
 
 pub found : (xs : List ℕ) (x : ℕ) (r : Result ℕ ℕ) → IsBinarySearchResult (λ y. nat_cmp y x) xs r → IsAscending xs → Found xs x r
 found xs x r h a = found_by xs x r (searched xs x r h (get_or-le xs a))

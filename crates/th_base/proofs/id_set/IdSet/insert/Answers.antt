@@ -1,5 +1,4 @@
-use Rattle.std.proofs.Common.{◌≡◌, ◌∙◌, true, false, sym, ap, not, subst}
-use Rattle.th_base.specs.IdSet.{has, inserted, IsAscending}
+use Rattle.std.proofs.Common.{sym, ap, not}
 use Rattle.th_base.proofs.Ascending.{found, found_present, found_absent, found_place, inserted_present, IsAscending-inserted}
 use Rattle.th_base.proofs.id_set.IdSet.insert.Goals as goal
 
