@@ -217,7 +217,7 @@ get_or-le (x ∷ xs) a zero (suc j) h g = let above : x < get_or xs j 0 = all_at
 get_or-le (x ∷ xs) a (suc i) zero h g = absurd (omega arith)
 get_or-le (x ∷ xs) a (suc i) (suc j) h g = get_or-le xs a.1 i j (omega arith) (omega arith)
 
-has_at : (xs : List ℕ) (x i : ℕ) → i < length xs → get_or xs i 0 ≡ x → has xs x ≡ true
+pub has_at : (xs : List ℕ) (x i : ℕ) → i < length xs → get_or xs i 0 ≡ x → has xs x ≡ true
 has_at [] x i h e = absurd (omega arith)
 has_at (y ∷ ys) x zero h e = rw (eq-eqb y x e) refl
 has_at (y ∷ ys) x (suc i) h e = or_right (eqb y x) (has ys x) (has_at ys x i (omega arith) e)

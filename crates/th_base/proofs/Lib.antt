@@ -1,2 +1,5 @@
+pub mod Ordered
 pub mod Ascending
+pub mod Members
 pub mod Merge
+pub mod Upwards

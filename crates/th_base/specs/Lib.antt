@@ -1,3 +1,4 @@
 pub mod Hierarchy
 pub mod IdSet
+pub mod Order
 pub mod Subtype

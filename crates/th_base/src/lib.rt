@@ -16,6 +16,7 @@ mod kind;
 mod lifecycle;
 mod name;
 mod number;
+mod order;
 mod seq;
 mod text;
 
@@ -26,5 +27,6 @@ pub use kind::{ArithOp, Elem, NarrowOp, Relation};
 pub use lifecycle::Lifecycle;
 pub use name::Name;
 pub use number::{ClassId, EdgeId, FieldId, MethodId, NodeId, Reg, SiteId};
+pub use order::acyclic;
 pub use seq::Seq;
 pub use text::Text;
