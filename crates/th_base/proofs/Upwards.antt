@@ -1,8 +1,8 @@
 -- The walk up the hierarchy: each step keeps what holds of it, and what its end shows.
-use Rattle.std.proofs.Common.{◌≡◌, ℕ, ◌+◌, ◌-◌, ◌<◌, ◌≤◌, zero, suc, Bool, true, false, List, [], ◌∷◌, ◌++◌, ◌⊎◌, Option, Some, length, take, set, get_or, map, sum, refl, sym, ap, ◌∙◌, subst, inl, inr, arith}
+use Rattle.std.proofs.Common.{◌≡◌, ℕ, ◌+◌, ◌-◌, ◌<◌, ◌≤◌, zero, suc, true, false, List, [], ◌∷◌, ◌++◌, Some, length, take, set, get_or, sum, refl, sym, ap, ◌∙◌, subst, inl, inr, arith}
 use Rattle.std.specs.List.{slice_get, sum_by}
 use Rattle.std.proofs.lemmas.Bool.{cases_eq, cases_lt, both_ways}
-use Rattle.std.proofs.lemmas.List.{length-set, length-append, length_push, take-append-le, take_at, take_all, take_more, get_or_append_left, get_or_default, get_or_push, get_or-set_same, get_or-set_other}
+use Rattle.std.proofs.lemmas.List.{length-set, length_push, take-append-le, take_at, take_all, take_more, get_or_append_left, get_or_default, get_or_push, get_or-set_same, get_or-set_other}
 use Rattle.std.proofs.lemmas.List.Sums.{sum_by-set}
 use Rattle.std.proofs.lemmas.Option.{get_or_from_slice_get, slice_get_within, slice_get-get_or}
 use Rattle.th_base.specs.declared.class.ClassInfo.{ClassInfo}
@@ -12,7 +12,7 @@ use Rattle.th_base.specs.Hierarchy.{direct_supertypes, StandsAbove, directly, hi
 use Rattle.th_base.specs.IdSet.{has}
 use Rattle.th_base.specs.Order.{StandAfter, IsOrder, mark_of, IsWalk, opening, supertypes_in}
 use Rattle.th_base.proofs.Ascending.{has_at}
-use Rattle.th_base.proofs.Members.{has_append_left, has_push_cases, has_push, place_of_has, has_take, Contains-from_has, has-from_Contains}
+use Rattle.th_base.proofs.Members.{has_append_left, has_push_cases, has_push, place_of_has, Contains-from_has}
 
 -- ---- marks
 

@@ -13,6 +13,7 @@ mod class;
 mod copy;
 mod id_set;
 mod kind;
+pub mod laws;
 mod lifecycle;
 mod name;
 mod number;

@@ -1,4 +1,4 @@
-use Rattle.std.proofs.Common.{List, ℕ, Option, Some, None, true, is_some, Vec, Global, refl}
+use Rattle.std.proofs.Common.{List, ℕ, Option, Some, None, is_some, Vec, Global, refl}
 use Rattle.std.specs.Prelude.{◌↔◌, IfSome, IfNone, IsTrue}
 use Rattle.th_base.specs.declared.class.ClassInfo.{ClassInfo}
 use Rattle.th_base.specs.Hierarchy.{IsAcyclic}
