@@ -1,3 +1,4 @@
+pub mod Ancestors
 pub mod Hierarchy
 pub mod IdSet
 pub mod Order

@@ -9,6 +9,7 @@
 //! hierarchy is the rule of `specs/Hierarchy.antt`.
 #![tactic(auto)]
 
+mod ancestors;
 mod class;
 mod copy;
 mod id_set;

@@ -145,14 +145,14 @@ fn open(walk: &mut Walk, class: usize) -> Result<(), AllocError>
 }
 
 // How many direct supertypes a class has.
-fn count_supertypes(class: &ClassInfo) -> usize
+pub(crate) fn count_supertypes(class: &ClassInfo) -> usize
     ensures { result ≡ length (supertypes_in class.now) }
 {
     class.interfaces.as_slice().len() + usize::from(class.super_id.is_some())
 }
 
 // The direct supertype at a place: the superinterfaces in order, then the superclass.
-fn supertype_at(class: &ClassInfo, at: usize) -> usize
+pub(crate) fn supertype_at(class: &ClassInfo, at: usize) -> usize
     requires { at < length (supertypes_in class.now) }
     ensures { result ≡ slice_index (supertypes_in class.now) at }
 {
