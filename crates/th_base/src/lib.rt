@@ -9,6 +9,7 @@
 #![tactic(auto)]
 
 mod copy;
+mod fail;
 mod lifecycle;
 mod name;
 mod number;
@@ -17,6 +18,7 @@ mod seq;
 mod text;
 
 pub use copy::{Same, TryCopy};
+pub use fail::Fail;
 pub use lifecycle::Lifecycle;
 pub use name::Name;
 pub use number::{ClassId, EdgeId, FieldId, MethodId, NodeId, Reg, SiteId};
