@@ -21,13 +21,16 @@ whole p q a b r to s m =
     ∙ regroup (p *ℤ value a.coefs s) (q *ℤ value b.coefs s) (p *ℤ a.constant) (q *ℤ b.constant)
     ∙ sym (λ i. distrib p (value a.coefs s) a.constant i +ℤ distrib q (value b.coefs s) b.constant i)
 
-pub combined-holds : (p q : ℤ) (a b r : Form) (s : ℕ → ℤ) → a.rel ≡ Le → b.rel ≡ Le → pos 0 <ℤ p → pos 0 <ℤ q
+pub at_least_zero : (p : ℤ) → pos 0 <ℤ p → pos 0 ≤ℤ p
+at_least_zero p h = omega (arith, ints)
+
+pub combined-holds : (p q : ℤ) (a b r : Form) (s : ℕ → ℤ) → a.rel ≡ Le → b.rel ≡ Le → pos 0 ≤ℤ p → pos 0 ≤ℤ q
     → IsMixed p a q b Le r → Holds a s → Holds b s → Holds r s
 combined-holds p q a b r s la lb hp hq m x y =
     let u : (value a.coefs s +ℤ a.constant) ≤ℤ pos 0 = rw la at x in
     let v : (value b.coefs s +ℤ b.constant) ≤ℤ pos 0 = rw lb at y in
-    let mu = mono p (value a.coefs s +ℤ a.constant) (omega (arith, ints)) u in
-    let mv = mono q (value b.coefs s +ℤ b.constant) (omega (arith, ints)) v in
+    let mu = mono p (value a.coefs s +ℤ a.constant) hp u in
+    let mv = mono q (value b.coefs s +ℤ b.constant) hq v in
     rw (m.rel, whole p q a b r Le s m) (omega (arith, ints, mu, mv))
 
 unit_square : (c d : ℤ) → unsigned_abs d ≡ 1 → (pos 1 *ℤ c) +ℤ (neg_ℤ (c *ℤ d) *ℤ d) ≡ pos 0

@@ -7,7 +7,7 @@ ghost use Rattle.th_linear.specs.Normal.{IsNormal};
 ghost use Rattle.th_linear.specs.Divided.{normal_of};
 ghost use Rattle.th_linear.specs.Mixed.{IsMixed, IsTooLarge};
 ghost use Rattle.th_linear.specs.Summed.{mixed_form};
-ghost use Rattle.th_linear.specs.Laws.{IsFact, DivisionKeeps, SumFollows, SubstitutionKeeps, AbsentStays};
+ghost use Rattle.th_linear.specs.Laws.{IsFact, DivisionKeeps, ScalingMultiplies, SumFollows, SubstitutionKeeps, AbsentStays};
 
 /// Division by the greatest common divisor has exactly one result, the one that `normal_of` computes.
 pub fn one_normal_form()
@@ -25,6 +25,7 @@ pub fn one_sum()
 /// The steps keep what the facts say.
 pub fn steps_keep()
     ensures division { DivisionKeeps }
+    ensures scaling { ScalingMultiplies }
     ensures sum { SumFollows }
     ensures substitution { SubstitutionKeeps }
     ensures absent { AbsentStays }
