@@ -6,7 +6,7 @@ use Rattle.std.proofs.lemmas.Nat.Gcd.{dvd-zero, dvd_trans}
 use Rattle.std.proofs.lemmas.Int.{ints, unsigned_abs-mul}
 use Rattle.th_linear.specs.Normal.{IsContent, DividesAll, scaled}
 use Rattle.th_linear.specs.Forms.{AreTerms}
-use native.Mathlib.Nat.{pos_of_dvd_of_pos, mul-div_cancel', le_of_dvd, dvd_of_mod-eq-zero, mod-eq-zero_of_dvd}
+use native.Mathlib.Nat.{pos_of_dvd_of_pos, mul-div_cancel', le_of_dvd, one-dvd, dvd_of_mod-eq-zero, mod-eq-zero_of_dvd}
 use Rattle.std.proofs.Common.{◌/◌, neg_ℤ, suc, zero, ◌^◌}
 use Rattle.std.proofs.lemmas.List.{take_more, take_more_set, drop-set-lt, drop-drop, map-append, get_or-drop}
 
@@ -111,3 +111,16 @@ divided-terms g low ts us p e terms = over us low (subst (AreTerms low) e terms)
 pub content_small : (g low : ℕ) (ts : List (ℕ × ℤ)) → (ts ≡ [] → ⊥) → AreTerms low ts → DividesAll g ts → g < 2 ^ 62
 content_small g low [] some terms d = absurd (some refl)
 content_small g low (t ∷ ts) some terms d = omega (arith, le_of_dvd terms.1 d.0, terms.2)
+
+-- where some of the coefficients are coprime, all are
+each_one : (ts : List (ℕ × ℤ)) → DividesAll 1 ts
+each_one [] = tt
+each_one (t ∷ ts) = (one-dvd (unsigned_abs t.1), each_one ts)
+
+divides_front : (d i : ℕ) (ts : List (ℕ × ℤ)) → DividesAll d ts → DividesAll d (take i ts)
+divides_front d zero ts a = tt
+divides_front d (suc i) [] a = tt
+divides_front d (suc i) (t ∷ ts) a = (a.0, divides_front d i ts a.1)
+
+pub coprime_front : (i : ℕ) (ts : List (ℕ × ℤ)) → IsContent 1 (take i ts) → IsContent 1 ts
+coprime_front i ts c = (each_one ts, (λ d a. c.1 d (divides_front d i ts a)))

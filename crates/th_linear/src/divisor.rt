@@ -34,6 +34,9 @@ fn content(coefs: &[(u32, i128)]) -> u128
 {
     let mut g = 0u128;
     for term in coefs {
+        if g == 1 {
+            return 1;
+        }
         g = euclid(g, term.1.unsigned_abs());
     }
     g
