@@ -21,7 +21,7 @@ pub enum Command {
     Run {
         /// The file with the script.
         script: Name,
-        /// How many instructions one event may run, from 0 to 10,000,000.
+        /// How many steps all events together may make, from 0 to 10,000,000.
         fuel: u32,
         /// The order in which the handlers of an Activity may be called.
         lifecycle: Lifecycle,
