@@ -5,8 +5,8 @@ use Rattle.std.specs.Str.{bytes_eq}
 use Rattle.th_words.specs.Pieces.{Text, pieces_of, value_given, operands_of}
 use Rattle.th_words.specs.Values.{Value, value_of}
 use Rattle.th_words.specs.Table.{OptionRow, CommandRow, option_names, operands_pass, table}
-use Rattle.th_words.specs.declared.fail.Fail.{Fail}
-use Rattle.th_words.specs.declared.fail.Fail.TheVariants.{Refused, NoMemory}
+use Rattle.th_base.specs.declared.fail.Fail.{Fail}
+use Rattle.th_base.specs.declared.fail.Fail.TheVariants.{Refused, NoMemory}
 use Rattle.th_words.specs.declared.command.Command.{Command}
 use Rattle.th_words.specs.declared.command.UsageFault.{UsageFault}
 use Rattle.th_words.specs.declared.command.UsageFault.TheVariants.{NoCommand, UnknownCommand, BadWords}

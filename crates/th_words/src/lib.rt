@@ -12,7 +12,6 @@
 #![tactic(auto)]
 
 mod command;
-mod fail;
 mod given;
 pub mod laws;
 mod options;
@@ -21,7 +20,6 @@ mod shape;
 mod values;
 
 pub use command::{Command, UsageFault};
-pub use fail::Fail;
 pub use read::read_words;
 
 #[cfg(test)]
