@@ -6,12 +6,13 @@ ghost use Rattle.th_words.specs.Pieces.{pieces_of};
 ghost use Rattle.th_words.specs.Told.{option_rule, operands_rule, app_told, is_option_name, IsReadFrom};
 ghost use Rattle.th_words.specs.Reading.{IfRefused};
 
+use crate::UsageFault;
 use crate::options::OPERANDS;
 use crate::shape::is_well_formed;
-use crate::{Fail, UsageFault};
 use clap::error::ErrorKind;
 use clap::{Arg, ArgAction, ArgMatches, Command, Error};
 use std::alloc::{AllocError, Global};
+use th_base::Fail;
 
 /// An option with one value, for `clap`.
 fn option_arg<'a>(alloc: Global, name: &'a str) -> Arg<'a>

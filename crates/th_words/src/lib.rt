@@ -20,7 +20,6 @@ mod shape;
 mod values;
 
 pub use command::{Command, UsageFault};
-pub use th_base::Fail;
 pub use read::read_words;
 
 #[cfg(test)]

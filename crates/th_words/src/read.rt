@@ -7,10 +7,10 @@ ghost use Rattle.th_words.specs.Reading.{IfRefused, IsAnswer, command_from, comm
 
 use crate::given::given;
 use crate::options::{BUDGET, FUEL, LIFECYCLE, LIST, SCRIPT, WORKERS};
-use crate::{Command, Fail, UsageFault, options};
+use crate::{Command, UsageFault, options};
 use clap::ArgMatches;
 use std::alloc::Global;
-use th_base::Name;
+use th_base::{Fail, Name};
 
 /// The words break a command's rules.
 const BAD_WORDS: Fail<UsageFault> = Fail::Refused(UsageFault::BadWords);

@@ -3,7 +3,7 @@ use crate::*;
 use std::alloc::{AllocError, Global};
 use std::process::Abort;
 use std::test::Fail as TestFail;
-use th_base::{Name, Seq};
+use th_base::{Fail, Name, Seq};
 
 fn append(text: &mut String, files: &Seq<Name>) -> Result<(), AllocError> {
     for file in files.as_slice() {
