@@ -1,16 +1,14 @@
 -- The factors of two facts make the variable vanish.
-use Rattle.std.proofs.Common.{◌≡◌, ◌↔◌, ℕ, zero, suc, ◌*◌, ◌/◌, ◌%◌, ◌<◌, ℤ, pos, neg_ℤ, ◌<ℤ◌, arith, refl, ap, sym, ◌∙◌, inl, inr, Bool, true, false, ◌&&◌, Some}
+use Rattle.std.proofs.Common.{◌≡◌, ℕ, zero, suc, ◌*◌, ◌/◌, ◌%◌, ◌<◌, ℤ, pos, neg_ℤ, ◌<ℤ◌, arith, refl, ap, sym, ◌∙◌, inl, inr, Bool, true, false, ◌&&◌}
 use Rattle.std.specs.Int.{◌∣◌}
 use Rattle.std.specs.Int.RustNames.{unsigned_abs}
 use Rattle.std.proofs.lemmas.Int.{ints}
 use Rattle.std.proofs.lemmas.Bool.{cases_Bool, and_parts, eqb-true, eq-eqb}
 use native.Mathlib.Nat.{dvd_of_mod-eq-zero, mod-eq-zero_of_dvd, one-dvd, mul-div_cancel'}
-use Rattle.th_linear.specs.Forms.{Form, coef}
+use Rattle.th_linear.specs.Forms.{coef}
 use Rattle.th_linear.specs.Divided.{greatest, divides, gcd_of}
-use Rattle.th_linear.specs.Mixed.{mixed, IsMixed}
-use Rattle.th_linear.specs.Summed.{mixed_form}
-use Rattle.th_linear.specs.Laws.{IsFact}
-use Rattle.th_linear.specs.declared.fact.Rel.{Rel}
+use Rattle.th_linear.specs.Mixed.{mixed}
+use Rattle.th_linear.specs.Laws.{OneSum}
 use Rattle.th_linear.specs.declared.fact.Rel.TheVariants.{Le}
 use Rattle.th_pure.specs.Laws.{VariableVanishes}
 
@@ -53,10 +51,6 @@ upper_is z h = omega (arith, ints)
 
 lower_is : (z : ℤ) → z <ℤ pos 0 → z ≡ neg_ℤ (pos (unsigned_abs z))
 lower_is z h = omega (arith, ints)
-
--- the law that a sum is the only one with its coefficients
-abbrev pub OneSum : Type 0
-OneSum = (p : ℤ) (a : Form) (q : ℤ) (b : Form) (to : Rel) (r : Form) → IsFact a → IsFact b → (IsFact r × IsMixed p a q b to r) ↔ (mixed_form p a q b to ≡ Some r)
 
 pub vanishes : OneSum → VariableVanishes
 vanishes law v a b r h k up low e =
