@@ -1,6 +1,6 @@
 -- Sums of multiples of two facts.
-use Rattle.std.specs.Prelude.{◌≡◌, ℕ, ◌+◌, ◌<◌, ◌≤◌, ℤ, pos, ◌+ℤ◌, ◌*ℤ◌, List, length, ◌⊎◌}
-use Rattle.th_linear.specs.Forms.{Form, AreTerms, value, coef, Small}
+use Rattle.std.specs.Prelude.{◌≡◌, ℕ, ◌+◌, ◌<◌, ◌≤◌, ℤ, pos, ◌+ℤ◌, ◌*ℤ◌, List, length, ◌⊎◌, ◌↔◌, Option, MatchOption}
+use Rattle.th_linear.specs.Forms.{Form, AreTerms, Holds, value, coef, Small}
 use Rattle.th_linear.specs.declared.fact.Rel.{Rel}
 
 -- p x + q y
@@ -21,6 +21,18 @@ HasLarge p a q b = (v : ℕ) × (Small (mixed p (coef v a) q (coef v b)) → ⊥
 -- a magnitude of p a + q b reaches 2^62
 abbrev pub IsTooLarge : ℤ → Form → ℤ → Form → Type 0
 IsTooLarge p a q b = (Small (mixed p a.constant q b.constant) → ⊥) ⊎ HasLarge p a.coefs q b.coefs
+
+-- the answer is p a + q b, and none where a magnitude of it reaches 2^62
+abbrev pub IsSum : ℤ → Form → ℤ → Form → Rel → Option Form → Type 0
+IsSum p a q b to o = MatchOption o (IsTooLarge p a q b) (IsMixed p a q b to)
+
+-- r holds wherever a and b do
+abbrev pub FollowsFrom : Form → Form → Form → Type 0
+FollowsFrom a b r = (s : ℕ → ℤ) → Holds a s → Holds b s → Holds r s
+
+-- wherever `by` holds, f and r say the same
+abbrev pub SaySame : Form → Form → Form → Type 0
+SaySame by f r = (s : ℕ → ℤ) → Holds by s → Holds f s ↔ Holds r s
 
 -- the terms r are p a + q b
 pub record AreMixed (p : ℤ) (a : List (ℕ × ℤ)) (q : ℤ) (b r : List (ℕ × ℤ)) : Type 0 where

@@ -1,5 +1,5 @@
 // Facts: a sum of terms and a constant, in relation to 0.
-ghost use Rattle.std.specs.Prelude.{◌≡◌, ◌↔◌, ◌<◌, ◌≤◌, ℤ, IfOk, IfSome, IsSome, IsTrue};
+ghost use Rattle.std.specs.Prelude.{◌≡◌, ◌↔◌, ◌<◌, ◌≤◌, IfOk, IfSome, IsSome, IsTrue};
 ghost use Rattle.std.specs.Int.RustNames.{unsigned_abs};
 ghost use Rattle.th_linear.specs.Forms.{AreTerms, IsForm, Small, Stands, coef};
 
@@ -44,7 +44,8 @@ impl Lin {
     /// or a magnitude reaches 2^62. Takes no memory.
     pub fn new(coefs: Vec<(u32, i128)>, constant: i128, rel: Rel) -> Option<Lin>
         ensures valid { IsSome result ↔ IsForm coefs.items constant }
-        ensures value { IfSome result (λ f. f ≡ record { coefs = coefs.items; constant = constant; rel = rel }) }
+        ensures value { IfSome result
+            (λ f. f ≡ record { coefs = coefs.items; constant = constant; rel = rel }) }
     {
         if is_small(constant) && are_terms(coefs.as_slice()) {
             Some(Lin {

@@ -1,8 +1,9 @@
 // Sums of multiples of two facts.
-ghost use Rattle.std.specs.Prelude.{[], MatchOption, IfOk, IfSome, neg_ℤ, ◌≡◌, ◌<◌, ◌≤◌, ◌^◌, ℕ, ℤ, pos, IsTrue, ◌↔◌, ◌<ℤ◌, ◌*ℤ◌, ◌+ℤ◌};
+ghost use Rattle.std.specs.Prelude.{◌≡◌, ◌≤◌, ◌^◌, ◌<ℤ◌, ◌*ℤ◌, pos, neg_ℤ, []};
+ghost use Rattle.std.specs.Prelude.{MatchOption, IfOk, IfSome};
 ghost use Rattle.std.specs.Int.RustNames.{unsigned_abs};
-ghost use Rattle.th_linear.specs.Forms.{AreTerms, Small, Holds, coef};
-ghost use Rattle.th_linear.specs.Mixed.{mixed, Steps, AreMixed, IsMixed, HasLarge, IsTooLarge};
+ghost use Rattle.th_linear.specs.Forms.{AreTerms, Small, coef};
+ghost use Rattle.th_linear.specs.Mixed.{mixed, IsSum, FollowsFrom, SaySame, Steps, AreMixed, HasLarge};
 ghost use Rattle.th_linear.specs.Summed.{mixed_form, combined, substituted};
 
 use crate::fact::is_small;
@@ -17,9 +18,9 @@ pub fn combine(alloc: Global, a: &Lin, p: i128, b: &Lin, q: i128) -> Result<Opti
     requires p_high { unsigned_abs p ≤ 2 ^ 62 }
     requires q_low { pos 0 <ℤ q }
     requires q_high { unsigned_abs q ≤ 2 ^ 62 }
-    ensures exact { IfOk result (λ o. MatchOption o (IsTooLarge p a.now q b.now) (IsMixed p a.now q b.now Rel.Le)) }
+    ensures exact { IfOk result (IsSum p a.now q b.now Rel.Le) }
     ensures value { IfOk result (λ o. o ≡ combined a.now p b.now q) }
-    ensures follows { IfOk result (λ o. IfSome o (λ r. (s : ℕ → ℤ) → Holds a.now s → Holds b.now s → Holds r s)) }
+    ensures follows { IfOk result (λ o. IfSome o (FollowsFrom a.now b.now)) }
 {
     mix_facts(alloc, p, a, q, b)
 }
@@ -36,10 +37,10 @@ pub fn substitute(
     requires by { by.now.rel ≡ Rel.Eq }
     requires unit { unsigned_abs (coef variable by.now.coefs) ≡ 1 }
     ensures exact { let m = neg_ℤ (coef variable f.now.coefs *ℤ coef variable by.now.coefs) in
-        IfOk result (λ o. MatchOption o (IsTooLarge (pos 1) f.now m by.now) (IsMixed (pos 1) f.now m by.now f.now.rel)) }
+        IfOk result (IsSum (pos 1) f.now m by.now f.now.rel) }
     ensures value { IfOk result (λ o. o ≡ substituted f.now variable by.now) }
     ensures gone { IfOk result (λ o. IfSome o (λ r. coef variable r.coefs ≡ pos 0)) }
-    ensures keeps { IfOk result (λ o. IfSome o (λ r. (s : ℕ → ℤ) → Holds by.now s → Holds f.now s ↔ Holds r s)) }
+    ensures keeps { IfOk result (λ o. IfSome o (SaySame by.now f.now)) }
 {
     let m = multiplier(f.coefficient(variable), by.coefficient(variable));
     mix_facts(alloc, 1, f, m, by)
@@ -59,7 +60,7 @@ fn multiplier(c: i128, d: i128) -> i128
 fn mix_facts(alloc: Global, p: i128, a: &Lin, q: i128, b: &Lin) -> Result<Option<Lin>, AllocError>
     requires p { unsigned_abs p ≤ 2 ^ 62 }
     requires q { unsigned_abs q ≤ 2 ^ 62 }
-    ensures exact { IfOk result (λ o. MatchOption o (IsTooLarge p a.now q b.now) (IsMixed p a.now q b.now a.now.rel)) }
+    ensures exact { IfOk result (IsSum p a.now q b.now a.now.rel) }
     ensures value { IfOk result (λ o. o ≡ mixed_form p a.now q b.now a.now.rel) }
 {
     let constant = mix(p, a.constant, q, b.constant);
@@ -88,7 +89,8 @@ fn mix_terms(
     requires left { AreTerms 0 left.now }
     requires q { unsigned_abs q ≤ 2 ^ 62 }
     requires right { AreTerms 0 right.now }
-    ensures { IfOk result (λ o. MatchOption o (HasLarge p left.now q right.now) (λ v. AreMixed p left.now q right.now v.items)) }
+    ensures { IfOk result (λ o. MatchOption o (HasLarge p left.now q right.now)
+        (λ v. AreMixed p left.now q right.now v.items)) }
 {
     let mut out = Vec::new(alloc);
     let mut a = left;
@@ -126,7 +128,8 @@ fn next_step<'a>(
     requires left { AreTerms 0 left.now }
     requires q { unsigned_abs q ≤ 2 ^ 62 }
     requires right { AreTerms 0 right.now }
-    ensures { MatchOption result ((left.now ≡ []) × (right.now ≡ [])) (λ r. Steps p left.now q right.now r.variable r.coefficient r.left.now r.right.now) }
+    ensures { MatchOption result ((left.now ≡ []) × (right.now ≡ []))
+        (λ r. Steps p left.now q right.now r.variable r.coefficient r.left.now r.right.now) }
 {
     match (left.split_first(), right.split_first()) {
         (None, None) => None,

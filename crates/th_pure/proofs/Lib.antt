@@ -6,3 +6,6 @@ pub mod Repeats
 pub mod Parts
 pub mod Relations
 pub mod Sound
+pub mod Ends
+pub mod Named
+pub mod Vanishing

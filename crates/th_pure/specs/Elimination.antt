@@ -107,3 +107,7 @@ eliminated v fs =
 abbrev pub eliminated_all : List ℕ → List Form → Outcome
 eliminated_all [] fs = Undecided
 eliminated_all (v ∷ vs) fs = cond (nat_le 200 (length fs)) Undecided (and_then (eliminated v fs) (λ gs. eliminated_all vs gs))
+
+-- both outcomes give the same answer, whichever variables are eliminated from then on
+abbrev pub AnswerAlike : Outcome → Outcome → Type 0
+AnswerAlike o p = (vs : List ℕ) → and_then o (λ gs. eliminated_all vs gs) ≡ and_then p (λ gs. eliminated_all vs gs)

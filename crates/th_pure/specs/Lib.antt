@@ -5,3 +5,4 @@ pub mod Bounds
 pub mod Elimination
 pub mod Refutation
 pub mod Solutions
+pub mod Laws

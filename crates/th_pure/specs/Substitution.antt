@@ -1,7 +1,8 @@
 -- An equation solved for a variable, and the variable taken out of the other facts.
-use Rattle.std.specs.Prelude.{ℕ, zero, suc, ◌==◌, cond, ℤ, pos, negsuc, neg_ℤ, List, [], ◌∷◌, ◌++◌, map, Option, Some, None}
+use Rattle.std.specs.Prelude.{◌≡◌, slice_index_or, ℕ, zero, suc, ◌==◌, cond, ℤ, pos, negsuc, neg_ℤ, List, [], ◌∷◌, ◌++◌, map, Option, Some, None}
 use Rattle.std.specs.Int.RustNames.{unsigned_abs}
-use Rattle.th_linear.specs.Forms.{Form}
+use Rattle.std.specs.List.{remove}
+use Rattle.th_linear.specs.Forms.{Form, coef}
 use Rattle.th_linear.specs.Summed.{substituted}
 use Rattle.th_linear.specs.declared.fact.Rel.{Rel}
 use Rattle.th_linear.specs.declared.fact.Rel.TheVariants.{Eq, Le, Ne}
@@ -42,6 +43,14 @@ first_choice f fs None later = passed (f ∷ []) later
 abbrev pub choice_of : List Form → Option Choice
 choice_of [] = None
 choice_of (f ∷ fs) = first_choice f fs (solved_variable f.rel f.coefs) (choice_of fs)
+
+-- the equation at a place solved for a variable, and the other facts (f stands where there is no such place)
+abbrev pub choice_at : List Form → ℕ → ℕ → Form → Choice
+choice_at fs at v f = record { by = slice_index_or fs at f; variable = v; others = remove fs at }
+
+-- the equation at a place has the variable with coefficient 1 or -1
+abbrev pub IsSolvedAt : List Form → ℕ → ℕ → Form → Type 0
+IsSolvedAt fs at v f = unsigned_abs (coef v (slice_index_or fs at f).coefs) ≡ 1
 
 -- the variable is at least the range's low end
 abbrev pub low_fact : Range → Form

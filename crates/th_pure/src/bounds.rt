@@ -7,7 +7,8 @@ ghost use Rattle.th_linear.specs.Normal.{scaled};
 ghost use Rattle.std.specs.Int.RustNames.{unsigned_abs};
 ghost use Rattle.th_linear.specs.declared.fact.Rel.{Rel};
 ghost use Rattle.th_pure.specs.Substitution.{low_fact, high_fact, range_facts};
-ghost use Rattle.th_pure.specs.Bounds.{inequalities_of, inequalities, at_most, at_least, variables, with_terms, with_variable, all_range_facts};
+ghost use Rattle.th_pure.specs.Bounds.{inequalities_of, inequalities, at_most, at_least};
+ghost use Rattle.th_pure.specs.Bounds.{variables, with_terms, with_variable, all_range_facts};
 
 use crate::Range;
 use crate::facts::FactList;
@@ -123,8 +124,10 @@ fn put_variable(list: &mut Vec<u32>, variable: u32) -> Result<(), AllocError>
 /// Where a variable stands in a list, or is to stand: the first place that isn't below it.
 fn place_of(list: &[u32], variable: u32) -> usize
     ensures within { result ≤ length list.now }
-    ensures here { result < length list.now → slice_index list.now result ≡ variable → with_variable variable list.now ≡ list.now }
-    ensures new { (result < length list.now → slice_index list.now result ≢ variable) → with_variable variable list.now ≡ insert list.now result variable }
+    ensures here { result < length list.now → slice_index list.now result ≡ variable
+        → with_variable variable list.now ≡ list.now }
+    ensures new { (result < length list.now → slice_index list.now result ≢ variable)
+        → with_variable variable list.now ≡ insert list.now result variable }
 {
     for (at, other) in list.iter().enumerate() {
         if *other >= variable {
@@ -186,7 +189,8 @@ fn high_bound(alloc: Global, range: &Range) -> Result<Lin, AllocError>
 fn bound(alloc: Global, variable: u32, coefficient: i128, constant: i128) -> Result<Lin, AllocError>
     requires unit { unsigned_abs coefficient ≡ 1 }
     requires small { unsigned_abs constant < 2 ^ 62 }
-    ensures { IfOk result (λ f. f ≡ record { coefs = (variable, coefficient) ∷ []; constant = constant; rel = Rel.Le }) }
+    ensures { IfOk result
+        (λ f. f ≡ record { coefs = (variable, coefficient) ∷ []; constant = constant; rel = Rel.Le }) }
 {
     let mut coefs = Vec::new(alloc);
     coefs.push((variable, coefficient))?;

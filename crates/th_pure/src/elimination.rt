@@ -1,13 +1,13 @@
 // Variables eliminated from inequalities one by one.
-ghost use Rattle.std.specs.Prelude.{◌≡◌, ◌<◌, ◌≤◌, ◌^◌, ◌/◌, ℕ, List, ◌++◌, length, map, pos, ◌<ℤ◌, IfOk, All};
+ghost use Rattle.std.specs.Prelude.{◌≡◌, ◌<◌, ◌≤◌, ◌^◌, ◌/◌, ◌<ℤ◌, pos, map, IfOk, All};
 ghost use Rattle.std.specs.Int.{◌∣◌};
 ghost use Rattle.std.specs.Int.RustNames.{unsigned_abs};
-ghost use Rattle.th_linear.specs.Forms.{Form, coef};
-ghost use Rattle.th_linear.specs.declared.fact.Rel.{Rel};
 ghost use Rattle.th_pure.specs.Outcomes.{and_then, facts_before};
 ghost use Rattle.th_pure.specs.Division.{divided_all};
 ghost use Rattle.th_pure.specs.Substitution.{all_made};
-ghost use Rattle.th_pure.specs.Elimination.{Agree, AreInequalities, AreLeft, IsUpper, IsLower, uppers, lowers, without, vanishing, combinations, has_fact, put_after, eliminated, eliminated_all};
+ghost use Rattle.th_pure.specs.Elimination.{IsUpper, IsLower, AreInequalities, AreLeft, Agree, AnswerAlike};
+ghost use Rattle.th_pure.specs.Elimination.{uppers, lowers, without, vanishing, combinations};
+ghost use Rattle.th_pure.specs.Elimination.{has_fact, put_after, eliminated, eliminated_all};
 
 use crate::division::divide_all;
 use crate::facts::{FactList, Outcome};
@@ -44,7 +44,7 @@ pub fn eliminate_all(
 /// is looked at from then on.
 fn eliminate(alloc: Global, facts: FactList, variable: u32) -> Result<Outcome, AllocError>
     requires { AreInequalities facts }
-    ensures value { IfOk result (λ outcome. (vs : List ℕ) → and_then outcome (λ gs. eliminated_all vs gs) ≡ and_then (eliminated variable facts) (λ gs. eliminated_all vs gs)) }
+    ensures value { IfOk result (λ outcome. AnswerAlike outcome (eliminated variable facts)) }
     ensures inequalities { IfOk result AreLeft }
 {
     let parts = split(alloc, facts, variable)?;
@@ -138,7 +138,8 @@ fn combine_each(
 ) -> Result<Outcome, AllocError>
     requires upper { IsUpper variable upper.now }
     requires lowers { All (IsLower variable) lowers.now }
-    ensures { IfOk result (λ outcome. outcome ≡ facts_before made (all_made (map (λ b. vanishing variable upper.now b) lowers.now))) }
+    ensures { IfOk result (λ outcome. outcome
+        ≡ facts_before made (all_made (map (λ b. vanishing variable upper.now b) lowers.now))) }
 {
     let mut list = made;
     for lower in lowers {
@@ -177,7 +178,8 @@ fn times(n: u128, g: u128) -> i128
 /// Puts facts after others, but for repeats; beyond 200 they are dropped.
 fn put_each(kept: FactList, facts: FactList) -> Result<FactList, AllocError>
     ensures value { IfOk result (λ list. Agree list (put_after kept facts)) }
-    ensures inequalities { IfOk result (λ list. AreInequalities kept → AreInequalities facts → AreInequalities list) }
+    ensures inequalities { IfOk result
+        (λ list. AreInequalities kept → AreInequalities facts → AreInequalities list) }
 {
     let mut list = kept;
     for fact in facts.into_vec() {

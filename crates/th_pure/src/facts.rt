@@ -1,5 +1,5 @@
 // Lists of facts, and what a step makes of them.
-ghost use Rattle.std.specs.Prelude.{◌≡◌, [], ◌∷◌, ◌++◌, ◌<◌, length, IfOk, OnOk, slice_index_or};
+ghost use Rattle.std.specs.Prelude.{◌≡◌, [], ◌∷◌, ◌++◌, ◌<◌, length, OnOk, slice_index_or};
 ghost use Rattle.std.specs.List.{remove};
 
 use std::alloc::{AllocError, Global};

@@ -14,6 +14,7 @@ mod bounds;
 mod division;
 mod elimination;
 mod facts;
+pub mod laws;
 mod range;
 mod refutation;
 mod substitution;

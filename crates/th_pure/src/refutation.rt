@@ -53,7 +53,8 @@ fn outcome_of(alloc: Global, facts: &[Lin], ranges: &[Range]) -> Result<Outcome,
 
 /// The facts solved for variables, and decided by elimination.
 fn solve_and_decide(alloc: Global, facts: FactList, ranges: &[Range]) -> Result<Outcome, AllocError>
-    ensures { IfOk result (λ outcome. outcome ≡ and_then (solved ranges.now facts) (λ gs. decided ranges.now gs)) }
+    ensures { IfOk result
+        (λ outcome. outcome ≡ and_then (solved ranges.now facts) (λ gs. decided ranges.now gs)) }
 {
     match solve(alloc, facts, ranges)? {
         Outcome::Remaining(left) => decide(alloc, left, ranges),

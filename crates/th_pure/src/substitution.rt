@@ -1,12 +1,12 @@
 // Variables taken out by equations.
 ghost use Rattle.std.specs.Prelude.{◌≡◌, ◌<◌, length, Some, None, IfOk, IfNone, IfSome, slice_index_or};
-ghost use Rattle.std.specs.List.{remove};
 ghost use Rattle.std.specs.Int.RustNames.{unsigned_abs};
 ghost use Rattle.th_linear.specs.Forms.{Form, coef};
 ghost use Rattle.th_linear.specs.Summed.{substituted};
 ghost use Rattle.th_pure.specs.Outcomes.{and_then};
 ghost use Rattle.th_pure.specs.Division.{divided_all};
-ghost use Rattle.th_pure.specs.Substitution.{unit_variable, solved_variable, choice_of, taken_out, equations, solved};
+ghost use Rattle.th_pure.specs.Substitution.{unit_variable, solved_variable, choice_of, choice_at, IsSolvedAt};
+ghost use Rattle.th_pure.specs.Substitution.{taken_out, equations, solved};
 
 use crate::Range;
 use crate::bounds::push_range;
@@ -65,9 +65,10 @@ struct Place {
 fn choose(facts: &[Lin]) -> Option<Place>
     ensures none { IfNone result (choice_of facts.now ≡ None) }
     ensures within { IfSome result (λ p. p.at < length facts.now) }
-    ensures choice { IfSome result (λ p. (f : Form) → choice_of facts.now ≡ Some (record { by = slice_index_or facts.now p.at f; variable = p.variable; others = remove facts.now p.at })) }
+    ensures choice { IfSome result
+        (λ p. (f : Form) → choice_of facts.now ≡ Some (choice_at facts.now p.at p.variable f)) }
     ensures equation { IfSome result (λ p. (f : Form) → (slice_index_or facts.now p.at f).rel ≡ Rel.Eq) }
-    ensures unit { IfSome result (λ p. (f : Form) → unsigned_abs (coef p.variable (slice_index_or facts.now p.at f).coefs) ≡ 1) }
+    ensures unit { IfSome result (λ p. (f : Form) → IsSolvedAt facts.now p.at p.variable f) }
 {
     for (at, fact) in facts.iter().enumerate() {
         if let Some(variable) = variable_of(fact) {
