@@ -6,12 +6,16 @@
 //!
 //! The definitions that the layers above cite stand in `specs/`: `Layout` has the bytes of the
 //! items as one concatenation, `Grammar` relates bytes to the class file that they stand for, and
-//! `Names` says which names and descriptors are well formed.
+//! `Names` says which names and descriptors are well formed. `Machine` has the states of the machine
+//! that runs a program, `Step` its steps, `Harness` the events that start code, `Run` its runs and
+//! `Joined` what a static field leads to; `laws` has what every run keeps. docs/MACHINE.md tells the
+//! same in plain words.
 #![tactic(auto)]
 
 mod class_file;
 mod flags;
 mod instr;
+pub mod laws;
 mod layout;
 mod refusal;
 
