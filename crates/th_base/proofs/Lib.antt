@@ -2,8 +2,11 @@ pub mod Alike
 pub mod Ascending
 pub mod Built
 pub mod Enough
-pub mod Members
+pub mod Looked
+pub mod Membership
 pub mod Merge
+pub mod Named
 pub mod Ordered
 pub mod Rows
+pub mod Upward
 pub mod Upwards

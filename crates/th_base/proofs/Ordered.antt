@@ -7,7 +7,7 @@ use Rattle.th_base.specs.declared.class.ClassInfo.{ClassInfo}
 use Rattle.th_base.specs.Hierarchy.{direct_supertypes, StandsAbove, directly, higher, IsAcyclic}
 use Rattle.th_base.specs.IdSet.{has}
 use Rattle.th_base.specs.Order.{StandAfter, IsOrder}
-use Rattle.th_base.proofs.Members.{place_of_has, has_take, has-from_Contains}
+use Rattle.th_base.proofs.Membership.{place_of_has, has_take, has-from_Contains}
 
 -- past the end there is no class, and nothing stands above it
 pub no_supertypes_past : (classes : List ClassInfo) (c : ℕ) → length classes ≤ c → direct_supertypes classes c ≡ []

@@ -12,7 +12,7 @@ use Rattle.th_base.specs.Hierarchy.{direct_supertypes, StandsAbove, directly, hi
 use Rattle.th_base.specs.IdSet.{has}
 use Rattle.th_base.specs.Order.{StandAfter, IsOrder, mark_of, IsWalk, opening, supertypes_in}
 use Rattle.th_base.proofs.Ascending.{has_at}
-use Rattle.th_base.proofs.Members.{has_append_left, has_push_cases, has_push, place_of_has, Contains-from_has}
+use Rattle.th_base.proofs.Membership.{has_append_left, has_push_cases, has_push, place_of_has, Contains-from_has}
 
 -- ---- marks
 

@@ -12,18 +12,23 @@
 mod ancestors;
 mod class;
 mod copy;
+mod hierarchy;
 mod id_set;
 mod kind;
 pub mod laws;
 mod lifecycle;
+mod members;
 mod name;
+mod names;
 mod number;
 mod order;
 mod seq;
+mod shape;
 mod text;
 
 pub use class::{ClassInfo, FieldInfo, MethodInfo};
 pub use copy::{Same, TryCopy};
+pub use hierarchy::Hierarchy;
 pub use id_set::IdSet;
 pub use kind::{ArithOp, Elem, NarrowOp, Relation};
 pub use lifecycle::Lifecycle;
