@@ -7,6 +7,7 @@ pub mod Membership
 pub mod Merge
 pub mod Named
 pub mod Ordered
+pub mod Orders
 pub mod Rows
 pub mod Upward
 pub mod Upwards

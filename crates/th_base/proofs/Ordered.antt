@@ -36,7 +36,7 @@ none_above_itself classes order after c a (suc bound) k g h e =
     none_above_itself classes order after c a bound p.0 (omega (arith, p.1)) (omega (arith, p.1)) p.2
 
 -- a class with something above it is one of the list
-low_in_range : (classes : List ClassInfo) (b c : ℕ) → has (direct_supertypes classes c) b ≡ true → c < length classes
+pub low_in_range : (classes : List ClassInfo) (b c : ℕ) → has (direct_supertypes classes c) b ≡ true → c < length classes
 low_in_range classes b c h =
     elim (cases_lt c (length classes)) [
       | inl inside ↦ inside

@@ -3,7 +3,7 @@
 --
 -- Each recursion goes up by direct supertypes and takes at most as many steps as there are
 -- classes. Where no class stands above itself that is enough: `laws` has the equations without it.
-use Rattle.std.specs.Prelude.{ℕ, ◌<◌, ◌==◌, ◌&&◌, zero, suc, Bool, not, List, [], ◌∷◌, ◌++◌, length, map, find, Option, None, Some, slice_get, Contains, codes, if◌then◌else◌}
+use Rattle.std.specs.Prelude.{ℕ, ◌≡◌, ◌<◌, true, false, ◌==◌, ◌&&◌, zero, suc, Bool, not, List, [], ◌∷◌, ◌++◌, length, map, find, Option, None, Some, slice_get, Contains, codes, if◌then◌else◌}
 use Rattle.std.specs.List.{flat_map, list_any}
 use Rattle.std.specs.Option.{option_or, option_map, option_and_then, option_map_or, option_to_list}
 use Rattle.std.specs.Str.{bytes_eq}
@@ -146,3 +146,19 @@ concrete_number found = option_and_then (λ m. if m.1.is_abstract then None else
 -- the method that a call on a receiver of this class runs; none where there is none or an abstract one
 abbrev pub selected_method : List ClassInfo → ℕ → List ℕ → List ℕ → Option MethodId
 selected_method classes c name descriptor = concrete_number (first_overriding classes c name descriptor)
+
+-- a method that a call on a receiver of class c runs: an instance method of this name and descriptor,
+-- neither private nor abstract, that the class or a superclass declares
+pub record IsSelected (classes : List ClassInfo) (c : ℕ) (name descriptor : List ℕ) (id : MethodId) : Type 0 where
+  pub class : ℕ
+  pub info : ClassInfo
+  pub method : MethodInfo
+  pub above : is_subclass classes c class ≡ true
+  pub stands : slice_get classes class ≡ Some info
+  pub declared : Contains info.methods method
+  pub name_is : method.name ≡ name
+  pub descriptor_is : method.descriptor ≡ descriptor
+  pub instance : method.is_static ≡ false
+  pub open_to_subclasses : method.is_private ≡ false
+  pub concrete : method.is_abstract ≡ false
+  pub number : method.id ≡ id
