@@ -1,6 +1,7 @@
 pub mod Alike
 pub mod Ascending
 pub mod Built
+pub mod DepthFirst
 pub mod Enough
 pub mod Looked
 pub mod Membership
@@ -10,4 +11,3 @@ pub mod Ordered
 pub mod Orders
 pub mod Rows
 pub mod Upward
-pub mod Upwards

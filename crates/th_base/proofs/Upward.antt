@@ -1,4 +1,4 @@
--- A walk along a line of superclasses, or along a list, finds what the rules find.
+-- Look-ups along a list of classes, or a line of superclasses, find what the rules find.
 use Rattle.std.proofs.Common.{◌≡◌, ℕ, ◌+◌, ◌<◌, ◌≤◌, zero, suc, false, cond, not, ◌&&◌, ◌||◌, Bor, List, [], ◌∷◌, ◌++◌, Option, Some, None, is_some, length, take, get_or, refl, sym, ap, ◌∙◌, arith}
 use Rattle.std.specs.List.{find, slice_get}
 use Rattle.std.specs.Option.{option_or, option_map, option_and_then, option_copied}

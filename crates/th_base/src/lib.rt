@@ -37,3 +37,6 @@ pub use number::{ClassId, EdgeId, FieldId, MethodId, NodeId, Reg, SiteId};
 pub use order::acyclic;
 pub use seq::Seq;
 pub use text::Text;
+
+#[cfg(test)]
+mod tests;

@@ -1,4 +1,4 @@
--- The walk up the hierarchy: each step keeps what holds of it, and what its end shows.
+-- The depth-first walk up the hierarchy: each step keeps what holds of it, and what its end shows.
 use Rattle.std.proofs.Common.{◌≡◌, ℕ, ◌+◌, ◌-◌, ◌<◌, ◌≤◌, zero, suc, true, false, List, [], ◌∷◌, ◌++◌, Some, length, take, set, get_or, sum, refl, sym, ap, ◌∙◌, subst, inl, inr, arith}
 use Rattle.std.specs.List.{slice_get, sum_by}
 use Rattle.std.proofs.lemmas.Bool.{cases_eq, cases_lt, both_ways}
