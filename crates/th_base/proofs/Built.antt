@@ -15,10 +15,10 @@ use Rattle.th_base.specs.Order.{IsOrder, supertypes_in}
 use Rattle.th_base.proofs.Alike.{alike_append, alike_cons, alike_flat_map, alike_from_empty, at_most_one}
 use Rattle.th_base.proofs.Ascending.{has_at}
 use Rattle.th_base.proofs.Enough.{supertypes_of_is, superinterfaces_of_is}
-use Rattle.th_base.proofs.Members.{has_push_cases, has_take}
+use Rattle.th_base.proofs.Membership.{has_push_cases, has_take}
 use Rattle.th_base.proofs.Ordered.{IsAcyclic-from_order}
 use Rattle.th_base.proofs.Rows.{interface_named, superclass_named, lists_classes_set, lists_above_set_same, lists_above_set_other}
-use Rattle.th_base.proofs.Upwards.{supertypes_at}
+use Rattle.th_base.proofs.DepthFirst.{supertypes_at}
 
 -- what is known of the class at a place of the order
 pub record IsNext (classes : List ClassInfo) (order : List ℕ) (i : ℕ) (info : ClassInfo) : Type 0 where

@@ -8,7 +8,7 @@ use Rattle.std.proofs.lemmas.Map.Steps.{length-le_from_distinct_below}
 use Rattle.th_base.specs.declared.class.ClassInfo.{ClassInfo}
 use Rattle.th_base.specs.Hierarchy.{superclass_of, interfaces_of, direct_supertypes, StandsAbove, directly, higher, IsAcyclic, lineage_within, lineage_of, supertypes_within, supertypes_of, superinterfaces_within, superinterfaces_of}
 use Rattle.th_base.specs.IdSet.{has}
-use Rattle.th_base.proofs.Members.{has_append_left, has_append_right, Contains-from_has}
+use Rattle.th_base.proofs.Membership.{has_append_left, has_append_right, Contains-from_has}
 
 pub above_trans : (classes : List ClassInfo) {a b c : ℕ} → StandsAbove classes a b → StandsAbove classes b c → StandsAbove classes a c
 above_trans classes up (directly d) = higher d up

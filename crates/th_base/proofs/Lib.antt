@@ -1,9 +1,13 @@
 pub mod Alike
 pub mod Ascending
 pub mod Built
+pub mod DepthFirst
 pub mod Enough
-pub mod Members
+pub mod Looked
+pub mod Membership
 pub mod Merge
+pub mod Named
 pub mod Ordered
+pub mod Orders
 pub mod Rows
-pub mod Upwards
+pub mod Upward

@@ -7,7 +7,7 @@ use Rattle.th_base.specs.declared.class.ClassInfo.{ClassInfo}
 use Rattle.th_base.specs.Hierarchy.{direct_supertypes, StandsAbove, directly, higher, IsAcyclic}
 use Rattle.th_base.specs.IdSet.{has}
 use Rattle.th_base.specs.Order.{StandAfter, IsOrder}
-use Rattle.th_base.proofs.Members.{place_of_has, has_take, has-from_Contains}
+use Rattle.th_base.proofs.Membership.{place_of_has, has_take, has-from_Contains}
 
 -- past the end there is no class, and nothing stands above it
 pub no_supertypes_past : (classes : List ClassInfo) (c : ℕ) → length classes ≤ c → direct_supertypes classes c ≡ []
@@ -36,7 +36,7 @@ none_above_itself classes order after c a (suc bound) k g h e =
     none_above_itself classes order after c a bound p.0 (omega (arith, p.1)) (omega (arith, p.1)) p.2
 
 -- a class with something above it is one of the list
-low_in_range : (classes : List ClassInfo) (b c : ℕ) → has (direct_supertypes classes c) b ≡ true → c < length classes
+pub low_in_range : (classes : List ClassInfo) (b c : ℕ) → has (direct_supertypes classes c) b ≡ true → c < length classes
 low_in_range classes b c h =
     elim (cases_lt c (length classes)) [
       | inl inside ↦ inside

@@ -16,7 +16,7 @@ use Rattle.th_base.specs.Hierarchy.{supertypes_of, superinterfaces_of}
 use Rattle.th_base.specs.IdSet.{has}
 use Rattle.th_base.proofs.Alike.{adds_both, slice_get-set_same, slice_get-set_other}
 use Rattle.th_base.proofs.Ascending.{has_at, has_first}
-use Rattle.th_base.proofs.Members.{has_append_left, has_append_right}
+use Rattle.th_base.proofs.Membership.{has_append_left, has_append_right}
 
 -- ---- at the start
 

@@ -3,7 +3,7 @@
 --
 -- Each recursion goes up by direct supertypes and takes at most as many steps as there are
 -- classes. Where no class stands above itself that is enough: `laws` has the equations without it.
-use Rattle.std.specs.Prelude.{ℕ, ◌<◌, ◌==◌, ◌&&◌, zero, suc, Bool, not, List, [], ◌∷◌, ◌++◌, length, map, find, Option, None, Some, slice_get, Contains, codes, if◌then◌else◌}
+use Rattle.std.specs.Prelude.{ℕ, ◌≡◌, ◌<◌, true, false, ◌==◌, ◌&&◌, zero, suc, Bool, not, List, [], ◌∷◌, ◌++◌, length, map, find, Option, None, Some, slice_get, Contains, codes, if◌then◌else◌}
 use Rattle.std.specs.List.{flat_map, list_any}
 use Rattle.std.specs.Option.{option_or, option_map, option_and_then, option_map_or, option_to_list}
 use Rattle.std.specs.Str.{bytes_eq}
@@ -80,19 +80,31 @@ abbrev pub declared_field : List ClassInfo → List ℕ → List ℕ → ℕ →
 declared_field classes name descriptor c =
     option_and_then (λ k. find (λ f. bytes_eq f.name name && bytes_eq f.descriptor descriptor) k.fields) (slice_get classes c)
 
+-- along a list of classes, the first that declares the field, and the field
+abbrev pub first_field : List ClassInfo → List ℕ → List ℕ → List ℕ → Option (ℕ × FieldInfo)
+first_field classes name descriptor order =
+    first_some {Y = ℕ × FieldInfo} (λ k. option_map (λ f. (k, f)) (declared_field classes name descriptor k)) order
+
 -- field resolution (Java specification 5.4.3.2): the class, then its superinterfaces and their own,
 -- then its superclass in the same way; the class that declares the field, and the field
 abbrev pub resolved_field : List ClassInfo → ℕ → List ℕ → List ℕ → Option (ℕ × FieldInfo)
-resolved_field classes c name descriptor =
-    first_some (λ k. option_map (λ f. (k, f)) (declared_field classes name descriptor k)) (supertypes_of classes c)
+resolved_field classes c name descriptor = first_field classes name descriptor (supertypes_of classes c)
+
+abbrev pub field_number : Option (ℕ × FieldInfo) → Option FieldId
+field_number found = option_map (λ f. f.1.id) found
 
 abbrev pub field_of : List ClassInfo → ℕ → List ℕ → List ℕ → Option FieldId
-field_of classes c name descriptor = option_map (λ f. f.1.id) (resolved_field classes c name descriptor)
+field_of classes c name descriptor = field_number (resolved_field classes c name descriptor)
 
 -- the method of this name and descriptor that a class declares
 abbrev pub declared_method : List ClassInfo → List ℕ → List ℕ → ℕ → Option MethodInfo
 declared_method classes name descriptor c =
     option_and_then (λ k. find (λ m. bytes_eq m.name name && bytes_eq m.descriptor descriptor) k.methods) (slice_get classes c)
+
+-- along a list of classes, the first that declares the method, and the method
+abbrev pub first_method : List ClassInfo → List ℕ → List ℕ → List ℕ → Option (ℕ × MethodInfo)
+first_method classes name descriptor order =
+    first_some {Y = ℕ × MethodInfo} (λ k. option_map (λ m. (k, m)) (declared_method classes name descriptor k)) order
 
 -- where a method is looked for: the class and its superclasses, then its superinterfaces. An instance
 -- initialisation method is looked for in the class alone (Java specification 5.4.3.3, 2.9).
@@ -102,11 +114,13 @@ method_order classes c name =
 
 -- method resolution (Java specification 5.4.3.3, 5.4.3.4): the class that declares the method, and the method
 abbrev pub resolved_method : List ClassInfo → ℕ → List ℕ → List ℕ → Option (ℕ × MethodInfo)
-resolved_method classes c name descriptor =
-    first_some (λ k. option_map (λ m. (k, m)) (declared_method classes name descriptor k)) (method_order classes c name)
+resolved_method classes c name descriptor = first_method classes name descriptor (method_order classes c name)
+
+abbrev pub method_number : Option (ℕ × MethodInfo) → Option MethodId
+method_number found = option_map (λ m. m.1.id) found
 
 abbrev pub method_of : List ClassInfo → ℕ → List ℕ → List ℕ → Option MethodId
-method_of classes c name descriptor = option_map (λ m. m.1.id) (resolved_method classes c name descriptor)
+method_of classes c name descriptor = method_number (resolved_method classes c name descriptor)
 
 -- the instance method of this name and descriptor, not private, that a class declares
 abbrev pub overriding_method : List ClassInfo → List ℕ → List ℕ → ℕ → Option MethodInfo
@@ -115,13 +129,36 @@ overriding_method classes name descriptor c =
     (λ k. find (λ m. (bytes_eq m.name name && bytes_eq m.descriptor descriptor) && (not m.is_static && not m.is_private)) k.methods)
     (slice_get classes c)
 
--- the first such method from the receiver's class upwards, abstract or not, and the class that
--- declares it (Java specification 6.5, invokevirtual and invokeinterface)
+-- along a list of classes, the first that declares such a method, abstract or not, and the method
+abbrev pub overriding_along : List ClassInfo → List ℕ → List ℕ → List ℕ → Option (ℕ × MethodInfo)
+overriding_along classes name descriptor order =
+    first_some {Y = ℕ × MethodInfo} (λ k. option_map (λ m. (k, m)) (overriding_method classes name descriptor k)) order
+
+-- the first such method from the receiver's class upwards, and the class that declares it
+-- (Java specification 6.5, invokevirtual and invokeinterface)
 abbrev pub first_overriding : List ClassInfo → ℕ → List ℕ → List ℕ → Option (ℕ × MethodInfo)
-first_overriding classes c name descriptor =
-    first_some (λ k. option_map (λ m. (k, m)) (overriding_method classes name descriptor k)) (lineage_of classes c)
+first_overriding classes c name descriptor = overriding_along classes name descriptor (lineage_of classes c)
+
+-- the method that runs where this one comes first: none where it is abstract
+abbrev pub concrete_number : Option (ℕ × MethodInfo) → Option MethodId
+concrete_number found = option_and_then (λ m. if m.1.is_abstract then None else Some m.1.id) found
 
 -- the method that a call on a receiver of this class runs; none where there is none or an abstract one
 abbrev pub selected_method : List ClassInfo → ℕ → List ℕ → List ℕ → Option MethodId
-selected_method classes c name descriptor =
-    option_and_then (λ m. if m.1.is_abstract then None else Some m.1.id) (first_overriding classes c name descriptor)
+selected_method classes c name descriptor = concrete_number (first_overriding classes c name descriptor)
+
+-- a method that a call on a receiver of class c runs: an instance method of this name and descriptor,
+-- neither private nor abstract, that the class or a superclass declares
+pub record IsSelected (classes : List ClassInfo) (c : ℕ) (name descriptor : List ℕ) (id : MethodId) : Type 0 where
+  pub class : ℕ
+  pub info : ClassInfo
+  pub method : MethodInfo
+  pub above : is_subclass classes c class ≡ true
+  pub stands : slice_get classes class ≡ Some info
+  pub declared : Contains info.methods method
+  pub name_is : method.name ≡ name
+  pub descriptor_is : method.descriptor ≡ descriptor
+  pub instance : method.is_static ≡ false
+  pub open_to_subclasses : method.is_private ≡ false
+  pub concrete : method.is_abstract ≡ false
+  pub number : method.id ≡ id

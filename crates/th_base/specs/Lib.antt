@@ -1,5 +1,6 @@
 pub mod Ancestors
 pub mod Hierarchy
 pub mod IdSet
+pub mod Lookup
 pub mod Order
 pub mod Subtype

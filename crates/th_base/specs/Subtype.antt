@@ -1,5 +1,5 @@
 -- Subtypes among reference types, which are named by class names and array descriptors.
-use Rattle.std.specs.Prelude.{ℕ, ◌-◌, ◌==◌, ◌||◌, Bool, false, List, [], ◌∷◌, length, take, Option, codes, if◌then◌else◌}
+use Rattle.std.specs.Prelude.{ℕ, ◌≡◌, ◌-◌, ◌==◌, ◌||◌, Bool, true, false, List, [], ◌∷◌, length, take, Option, codes, if◌then◌else◌}
 use Rattle.std.specs.List.{list_any, position_from}
 use Rattle.std.specs.Option.{option_map_or}
 use Rattle.std.specs.Str.{bytes_eq}
@@ -55,3 +55,7 @@ is_type_subtype classes (PrimitiveType p) (PrimitiveType q) = bytes_eq p q
 -- subtypes over class names and array descriptors
 abbrev pub is_subtype : List ClassInfo → List ℕ → List ℕ → Bool
 is_subtype classes a b = is_type_subtype classes (named_type a) (named_type b)
+
+-- nothing but these classes stands above the classes of which every array is a subtype
+abbrev pub AreAboveAll : List ClassInfo → Type 0
+AreAboveAll classes = (a b : List ℕ) → is_array_supertype a ≡ true → is_class_subtype classes a b ≡ true → is_array_supertype b ≡ true

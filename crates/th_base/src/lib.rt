@@ -13,19 +13,24 @@ mod ancestors;
 mod class;
 mod copy;
 mod fail;
+mod hierarchy;
 mod id_set;
 pub mod laws;
 mod lifecycle;
+mod members;
 mod name;
+mod names;
 mod number;
 mod operation;
 mod order;
 mod seq;
+mod shape;
 mod text;
 
 pub use class::{ClassInfo, FieldInfo, MethodInfo};
 pub use copy::{Same, TryCopy};
 pub use fail::Fail;
+pub use hierarchy::Hierarchy;
 pub use id_set::IdSet;
 pub use lifecycle::Lifecycle;
 pub use name::Name;
@@ -34,3 +39,6 @@ pub use operation::{ArithOp, Elem, NarrowOp, Relation};
 pub use order::acyclic;
 pub use seq::Seq;
 pub use text::Text;
+
+#[cfg(test)]
+mod tests;

@@ -3,7 +3,7 @@ use Rattle.std.specs.List.{sum_by}
 use Rattle.std.proofs.lemmas.List.{length-take, length_push}
 use Rattle.th_base.specs.declared.order.Mark.TheVariants.{New, Open, Done}
 use Rattle.th_base.specs.Order.{opening, mark_of}
-use Rattle.th_base.proofs.Upwards.{last_in, left_value, mark_read, path_some, visit_at, visit_done, visit_cycle, visit_link, walk_opened, visit_looked, walk_outside, steps_opened, steps_done}
+use Rattle.th_base.proofs.DepthFirst.{last_in, left_value, mark_read, path_some, visit_at, visit_done, visit_cycle, visit_link, walk_opened, visit_looked, walk_outside, steps_opened, steps_done}
 use Rattle.th_base.proofs.order.visit.Goals as goal
 
 pub index-left-requires : goal.index-left-requires

@@ -1,4 +1,4 @@
--- The walk up the hierarchy: each step keeps what holds of it, and what its end shows.
+-- The depth-first walk up the hierarchy: each step keeps what holds of it, and what its end shows.
 use Rattle.std.proofs.Common.{◌≡◌, ℕ, ◌+◌, ◌-◌, ◌<◌, ◌≤◌, zero, suc, true, false, List, [], ◌∷◌, ◌++◌, Some, length, take, set, get_or, sum, refl, sym, ap, ◌∙◌, subst, inl, inr, arith}
 use Rattle.std.specs.List.{slice_get, sum_by}
 use Rattle.std.proofs.lemmas.Bool.{cases_eq, cases_lt, both_ways}
@@ -12,7 +12,7 @@ use Rattle.th_base.specs.Hierarchy.{direct_supertypes, StandsAbove, directly, hi
 use Rattle.th_base.specs.IdSet.{has}
 use Rattle.th_base.specs.Order.{StandAfter, IsOrder, mark_of, IsWalk, opening, supertypes_in}
 use Rattle.th_base.proofs.Ascending.{has_at}
-use Rattle.th_base.proofs.Members.{has_append_left, has_push_cases, has_push, place_of_has, Contains-from_has}
+use Rattle.th_base.proofs.Membership.{has_append_left, has_push_cases, has_push, place_of_has, Contains-from_has}
 
 -- ---- marks
 
