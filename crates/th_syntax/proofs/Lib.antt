@@ -1,0 +1,4 @@
+pub mod Inverting
+pub mod Origins
+pub mod Standing
+pub mod Worked

@@ -1,0 +1,16 @@
+pub mod Names
+pub mod Flags
+pub mod BuiltIn
+pub mod Layout
+pub mod Refs
+pub mod Grammar
+pub mod Machine
+pub mod Handlers
+pub mod Program
+pub mod Initial
+pub mod Step
+pub mod Harness
+pub mod Run
+pub mod Joined
+pub mod Facts
+pub mod Worked
