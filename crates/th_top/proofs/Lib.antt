@@ -10,3 +10,4 @@ pub mod Sent
 pub mod Accepting
 pub mod Judging
 pub mod Answering
+pub mod Surviving

@@ -16,7 +16,7 @@ use Rattle.th_syntax.specs.declared.instr.Instr.{Instr}
 use Rattle.th_top.specs.FirstForm.{ref_to, is_static_named, IsOnce}
 use Rattle.th_top.specs.Report.{stored_in, stores_into}
 
-both_true : (a b : Bool) → (a && b) ≡ true → (a ≡ true) × (b ≡ true)
+pub both_true : (a b : Bool) → (a && b) ≡ true → (a ≡ true) × (b ≡ true)
 both_true true b h = (refl, h)
 both_true false b h = absurd cc
 

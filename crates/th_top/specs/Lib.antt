@@ -7,3 +7,4 @@ pub mod Fetching
 pub mod Writing
 pub mod Status
 pub mod Answer
+pub mod Safety

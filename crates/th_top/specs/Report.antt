@@ -10,8 +10,9 @@ use Rattle.th_syntax.specs.declared.class_file.Code.{Code}
 use Rattle.th_syntax.specs.declared.instr.MemberRef.{MemberRef}
 use Rattle.th_syntax.specs.declared.instr.Instr.{Instr}
 use Rattle.th_syntax.specs.declared.instr.Instr.TheVariants.{PutStatic}
-use Rattle.th_syntax.specs.Flags.{is_static, is_abstract_method, is_interface, is_abstract_class}
+use Rattle.th_syntax.specs.Flags.{is_static}
 use Rattle.th_syntax.specs.Refs.{is_same_ref}
+use Rattle.th_syntax.specs.Harness.{can_be_made}
 use Rattle.th_top.specs.FirstForm.{ref_to}
 use Rattle.th_top.specs.declared.report.Alarms.{Alarms}
 
@@ -32,22 +33,13 @@ method_stores r m = option_map_or (λ code. list_any (λ p. stores_into r p.1) c
 abbrev pub is_stored : ClassFile → MemberRef → Bool
 is_stored class r = list_any (method_stores r) class.methods
 
--- a constructor without parameters that a launch can call
-abbrev pub is_launch_constructor : Member → Bool
-is_launch_constructor m =
-    bytes_eq m.name (codes "<init>") && (bytes_eq m.descriptor (codes "()V") && (not (is_static m) && not (is_abstract_method m)))
-
--- the harness launches objects of this subclass of Activity
-abbrev pub is_launched : ClassFile → Bool
-is_launched class = not (is_abstract_class class) && (not (is_interface class) && list_any is_launch_constructor class.methods)
-
 -- a static field that some code stores into
 abbrev pub is_alarming : (MemberRef → Bool) → ClassFile → Member → Bool
 is_alarming stored class f = is_static f && stored (ref_to class f)
 
 -- the fields of the coarse alarms, in order: the static fields that are stored into, where an object of the class can be launched
 abbrev pub alarms_of : ClassFile → List Member
-alarms_of class = if is_launched class then filter (is_alarming (is_stored class) class) class.fields else []
+alarms_of class = if can_be_made class then filter (is_alarming (is_stored class) class) class.fields else []
 
 -- the line of an alarm, with its number and the field by its class, name and descriptor
 abbrev pub alarm_line : ClassFile → ℕ → Member → List ℕ

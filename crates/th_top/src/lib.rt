@@ -5,6 +5,7 @@ mod decide;
 mod fetching;
 mod first_form;
 mod items;
+pub mod laws;
 mod members;
 mod reader;
 mod report;

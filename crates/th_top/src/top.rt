@@ -6,10 +6,12 @@ ghost use Rattle.th_top.specs.Words.{command_of};
 ghost use Rattle.th_top.specs.FirstForm.{IsAccepted};
 ghost use Rattle.th_top.specs.Report.{report_of};
 ghost use Rattle.th_top.specs.Writing.{with_text, AddsPart, HasRoomFor};
+ghost use Rattle.th_top.specs.Safety.{PrintsAllJoined};
 ghost use Rattle.th_top.specs.Answer.{texts, Reports, Writes, Stops, IsRefused, IsTold, ReadFailed, FaultIsNamed, CountsOnce, HasLine, line_of, status_for};
 
 use crate::Status;
 use crate::decide::decide;
+use crate::laws::alarms_are_enough;
 use crate::writing::write_text;
 use std::alloc::Global;
 use std::thread::Threads;
@@ -64,6 +66,12 @@ pub fn thresher<T: Threads + Sync, F: Files, O: Sink, E: Sink, G: Gate + Sync>(
         → IsAccepted bytes class → F.faults files.new ≡ F.faults files.old → O.faults out.new ≡ O.faults out.old
         → Writes (result ≡ status_for class) (O.held out.new ≡ with_text (O.held out.old) (report_of class)) ⊎ (result ≡ Status.NoMemory) }
 
+    // Every static field and Activity class that some run joins is printed as surviving: a pair
+    // that isn't is joined in no reachable state of any run, under either lifecycle.
+    ensures safe { (name bytes : List ℕ) (class : ClassFile) → command_of (texts words.now) ≡ Ok name → IsTold (F.told files.old) name bytes
+        → IsAccepted bytes class → F.faults files.new ≡ F.faults files.old → O.faults out.new ≡ O.faults out.old
+        → PrintsAllJoined class (O.held out.old) (O.held out.new) ⊎ (result ≡ Status.NoMemory) }
+
     // A part of the report was written.
     ensures write_fault { (result ≡ Status.WriteFault) ↔ (O.faults out.old < O.faults out.new) }
     ensures part { result ≡ Status.WriteFault → IfOk (command_of (texts words.now))
@@ -83,6 +91,7 @@ pub fn thresher<T: Threads + Sync, F: Files, O: Sink, E: Sink, G: Gate + Sync>(
         → IsAccepted bytes class → HasRoomFor (O.held out.old) (report_of class) → O.faults out.new ≡ O.faults out.old }
     ensures same_files { F.told files.new ≡ F.told files.old }
 {
+    alarms_are_enough();
     let Ok(decided) = decide(alloc, words, files) else {
         say(err, b"no memory\n");
         return Status::NoMemory;

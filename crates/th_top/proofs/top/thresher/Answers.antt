@@ -1,5 +1,6 @@
 use Rattle.std.proofs.Common.{inl, sym, ap, ◌∙◌}
 use Rattle.th_top.proofs.Answering.{report_file, text_file, refused_file, missing_file, nothing_more, line_is}
+use Rattle.th_top.specs.Report.{alarms_of}
 use Rattle.th_top.specs.Writing.{with_text}
 use Rattle.th_top.proofs.top.thresher.Goals as goal
 
@@ -16,6 +17,16 @@ pub returns-in-Ok-write_text-clause-report_always : goal.returns-in-Ok-write_tex
 returns-in-Ok-write_text-clause-report_always g c name bytes class command told accepted files_same out_same =
     let report = report_file c.in-Ok.decided.status _ name bytes _ _ class _ _ (rw command at c.in-Ok.ensures.decides) told accepted files_same in
     inl (record { status_is = report.status_is; written_is = rw (← report.text_is, ← c.as_bytes.ensures) c.in-Ok-write_text.ensures.whole })
+
+-- the report has the alarms of the class, which are enough
+pub returns-in-Ok-write_text-clause-safe : goal.returns-in-Ok-write_text-clause-safe
+returns-in-Ok-write_text-clause-safe g c name bytes class command told accepted files_same out_same =
+    let report = report_file c.in-Ok.decided.status _ name bytes _ _ class _ _ (rw command at c.in-Ok.ensures.decides) told accepted files_same in
+    inl (record {
+      alarms = alarms_of class;
+      written = rw (← report.text_is, ← c.as_bytes.ensures) c.in-Ok-write_text.ensures.whole;
+      all_joined = c.alarms_are_enough.ensures bytes class accepted;
+    })
 
 -- nothing is written where the file is refused, so no write failed
 pub returns-clause-refused_always : goal.returns-clause-refused_always

@@ -1,0 +1,23 @@
+// What the report of a first-form class says of runs, and that bytes stand for one class file.
+ghost use Rattle.std.specs.Prelude.{◌≡◌, List, ℕ};
+ghost use Rattle.th_syntax.specs.declared.class_file.ClassFile.{ClassFile};
+ghost use Rattle.th_syntax.specs.Grammar.{StandsFor};
+ghost use Rattle.th_top.specs.FirstForm.{IsAccepted};
+ghost use Rattle.th_top.specs.Report.{alarms_of};
+ghost use Rattle.th_top.specs.Safety.{AreAllAlarms};
+
+use th_syntax::laws::{activities_are_made, statics_have_origins};
+
+/// Bytes stand for at most one class file.
+pub fn one_class_file()
+    ensures { (bytes : List ℕ) (class other : ClassFile) → StandsFor bytes class → StandsFor bytes other → class ≡ other }
+{}
+
+/// A static field and an Activity class of an accepted class that are joined in a reachable state of
+/// any run, under either lifecycle, are among the alarms of the class.
+pub fn alarms_are_enough()
+    ensures { (bytes : List ℕ) (class : ClassFile) → IsAccepted bytes class → AreAllAlarms class (alarms_of class) }
+{
+    statics_have_origins();
+    activities_are_made();
+}
