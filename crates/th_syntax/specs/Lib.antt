@@ -1,0 +1,11 @@
+pub mod Forms
+pub mod ClassBytes
+pub mod Reading
+pub mod WellFormed
+pub mod Descriptors
+pub mod PoolChecks
+pub mod CodeBytes
+pub mod Decoding
+pub mod Checks
+pub mod ClassGrammar
+pub mod FirstFlaw

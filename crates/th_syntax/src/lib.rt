@@ -11,6 +11,7 @@
 
 mod class_file;
 mod instr;
+pub mod laws;
 mod layout;
 mod refusal;
 
