@@ -146,16 +146,26 @@ entry left = do
 abbrev pub Pool : Type 0
 Pool = List (Option (Placed Entry))
 
--- the next so many indices; `second` says that the first of them is the second one of an entry
+-- what the next index leads to, where `left` more follow it; `second` says that it is the second index
+-- of the entry before
+unfoldable pub slot : Bool → ℕ → Form (Option (Placed Entry))
+slot true left = whole None
+slot false left = do
+  one ← entry left
+  whole (Some one)
+
+-- whether the index behind this one is the second of the same entry
+abbrev pub takes_two : Option (Placed Entry) → Bool
+takes_two None = false
+takes_two (Some one) = is_wide (tag_of one.value)
+
+-- the next so many indices
 unfoldable pub slots : Bool → ℕ → Form Pool
 slots second zero = whole []
-slots true (suc left) = do
-  others ← slots false left
-  whole (None ∷ others)
-slots false (suc left) = do
-  first ← entry left
-  others ← slots (is_wide (tag_of first.value)) left
-  whole (Some first ∷ others)
+slots second (suc left) = do
+  first ← slot second left
+  others ← slots (takes_two first) left
+  whole (first ∷ others)
 
 -- the pool, from its count on; a count of 0 is refused at the count
 unfoldable pub pool : Form Pool

@@ -98,7 +98,7 @@ is_floating_method m = list_any is_floating m.params || is_floating_result m.res
 -- ---- the one type that bytes spell, if any: the laws say that these are the descriptors above
 
 -- a type of one letter
-abbrev pub base_type : ℕ → Option FieldType
+unfoldable pub base_type : ℕ → Option FieldType
 base_type b =
     if b == byte "B" then Some byte_type
     else if b == byte "C" then Some char_type
@@ -115,13 +115,17 @@ unfoldable pub name_before : List ℕ → Option (List ℕ × List ℕ)
 name_before [] = None
 name_before (b ∷ bytes) = if b == byte ";" then Some ([], bytes) else option_map (λ x. (b ∷ x.0, x.1)) (name_before bytes)
 
+-- the type that stands at the front, unless it is an array, and the bytes behind it
+unfoldable pub element_at : List ℕ → Option (FieldType × List ℕ)
+element_at [] = None
+element_at (b ∷ bytes) =
+    if b == byte "L" then option_map (λ x. (class_type x.0, x.1)) (name_before bytes)
+    else option_map (λ type. (type, bytes)) (base_type b)
+
 -- the type that stands at the front, and the bytes behind it
 unfoldable pub type_at : List ℕ → Option (FieldType × List ℕ)
 type_at [] = None
-type_at (b ∷ bytes) =
-    if b == byte "[" then option_map (λ x. (array_type x.0, x.1)) (type_at bytes)
-    else if b == byte "L" then option_map (λ x. (class_type x.0, x.1)) (name_before bytes)
-    else option_map (λ type. (type, bytes)) (base_type b)
+type_at (b ∷ bytes) = if b == byte "[" then option_map (λ x. (array_type x.0, x.1)) (type_at bytes) else element_at (b ∷ bytes)
 
 -- a value behind which nothing stands
 abbrev pub alone : {A : Type 0} → Option (A × List ℕ) → Option A

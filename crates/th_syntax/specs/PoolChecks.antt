@@ -1,6 +1,6 @@
 -- What the indices of the constant pool lead to, and its entries that lead to a wrong one
 -- (Java specification 4.4).
-use Rattle.std.specs.Prelude.{ℕ, ◌==◌, ◌&&◌, List, Bool, true, false, Option, Some, None, ℤ, slice_get, if◌then◌else◌}
+use Rattle.std.specs.Prelude.{ℕ, ◌+◌, ◌==◌, ◌&&◌, nat_le, List, [], ◌∷◌, Bool, true, false, Option, Some, None, ℤ, slice_get, if◌then◌else◌}
 use Rattle.std.specs.List.{filter_map}
 use Rattle.std.specs.Option.{option_and_then, option_map, option_map_or, option_flatten}
 use Rattle.th_syntax.specs.declared.instr.MemberRef.{MemberRef}
@@ -82,6 +82,10 @@ member_in pool other = None
 abbrev pub member_of : Pool → ℕ → Option MemberRef
 member_of pool index = option_and_then (member_in pool) (entry_of pool index)
 
+-- the tag of such an entry, and its member
+abbrev pub tagged_member_of : Pool → ℕ → Option (ℕ × MemberRef)
+tagged_member_of pool index = option_and_then (λ tag. option_map (λ m. (tag, m)) (member_of pool index)) (tag_at pool index)
+
 -- ---- the check of the entries
 
 -- Each index of a Class, String, Fieldref, Methodref, InterfaceMethodref and NameAndType entry leads
@@ -102,3 +106,9 @@ entry_flaw pool (Some e) = if refers_well pool e.value then None else Some (reco
 -- an entry that refers to an entry of a wrong tag is refused at its own tag, by number 4
 unfoldable pub entry_flaws : Pool → List Flaw
 entry_flaws pool = filter_map (entry_flaw pool) pool
+
+-- Whether the entries stand one behind the other, the first of them at this offset or later.
+abbrev pub ascend_from : ℕ → Pool → Bool
+ascend_from at [] = true
+ascend_from at (None ∷ slots) = ascend_from at slots
+ascend_from at (Some e ∷ slots) = nat_le at e.at && ascend_from (e.at + 1) slots

@@ -1,10 +1,11 @@
 // Laws over the definitions: functions that take nothing and do nothing, whose contracts hold.
-ghost use Rattle.std.specs.Prelude.{◌≡◌, ◌↔◌, ℕ, List, Result, Ok, Err};
+ghost use Rattle.std.specs.Prelude.{◌≡◌, ◌↔◌, ℕ, List, Some, Result, Ok, Err};
 ghost use Rattle.th_syntax.specs.declared.class_file.ClassFile.{ClassFile};
 ghost use Rattle.th_syntax.specs.declared.refusal.Flaw.{Flaw};
 ghost use Rattle.th_syntax.specs.Forms.{Form, Stands, IsFlawed, read};
 ghost use Rattle.th_syntax.specs.ClassBytes.{Pool, RawClass, RawCode};
 ghost use Rattle.th_syntax.specs.CodeBytes.{Spelled};
+ghost use Rattle.th_syntax.specs.Descriptors.{FieldType, MethodType, IsFieldDescriptor, IsMethodDescriptor, field_type_of, method_type_of};
 ghost use Rattle.th_syntax.specs.ClassGrammar.{IsClassFile};
 ghost use Rattle.th_syntax.specs.FirstFlaw.{FirstFlaw};
 
@@ -36,3 +37,15 @@ pub fn code_reading()
     ensures content { (form : Form RawCode) (at : ℕ) (bytes : List ℕ) (value : RawCode) (behind : ℕ) (others : List ℕ) → (read form at bytes ≡ Ok (value, behind, others)) ↔ Stands form at bytes value behind others }
     ensures instruction { (form : Form Spelled) (at : ℕ) (bytes : List ℕ) (value : Spelled) (behind : ℕ) (others : List ℕ) → (read form at bytes ≡ Ok (value, behind, others)) ↔ Stands form at bytes value behind others }
 {}
+
+/// The descriptors that spell a field's type, and no others, are read, and as that type.
+pub fn field_descriptors()
+    ensures { (bytes : List ℕ) (type : FieldType) → (field_type_of bytes ≡ Some type) ↔ IsFieldDescriptor bytes type }
+{
+}
+
+/// The descriptors that spell a method's parameters and result, and no others, are read, and as these.
+pub fn method_descriptors()
+    ensures { (bytes : List ℕ) (method : MethodType) → (method_type_of bytes ≡ Some method) ↔ IsMethodDescriptor bytes method }
+{
+}
