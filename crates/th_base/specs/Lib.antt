@@ -1,0 +1,5 @@
+pub mod Ancestors
+pub mod Hierarchy
+pub mod IdSet
+pub mod Order
+pub mod Subtype

@@ -1,25 +1,36 @@
-//! The plain values that every layer speaks of.
+//! The plain values that every layer speaks of, and the class hierarchy.
 //!
-//! Texts, sequences and names are seen by contracts as lists, so that a value that a layer makes
-//! can be compared with the value of a definition. Numbers of classes, methods, fields, nodes,
-//! registers, sites and edges are types of their own.
+//! Texts, sequences, names and sets of numbers are seen by contracts as lists, so that a value that
+//! a layer makes can be compared with the value of a definition. Numbers of classes, methods,
+//! fields, nodes, registers, sites and edges are types of their own.
 //!
-//! The layers above use that a copy is equal to what it was copied from (`TryCopy`), and that a
-//! comparison answers exactly whether two values are equal (`Same`).
+//! The layers above use that a copy is equal to what it was copied from (`TryCopy`), that a
+//! comparison answers exactly whether two values are equal (`Same`), and that each look-up of a
+//! hierarchy is the rule of `specs/Hierarchy.antt`.
 #![tactic(auto)]
 
+mod ancestors;
+mod class;
 mod copy;
+mod fail;
+mod id_set;
+pub mod laws;
 mod lifecycle;
 mod name;
 mod number;
 mod operation;
+mod order;
 mod seq;
 mod text;
 
+pub use class::{ClassInfo, FieldInfo, MethodInfo};
 pub use copy::{Same, TryCopy};
+pub use fail::Fail;
+pub use id_set::IdSet;
 pub use lifecycle::Lifecycle;
 pub use name::Name;
 pub use number::{ClassId, EdgeId, FieldId, MethodId, NodeId, Reg, SiteId};
 pub use operation::{ArithOp, Elem, NarrowOp, Relation};
+pub use order::acyclic;
 pub use seq::Seq;
 pub use text::Text;

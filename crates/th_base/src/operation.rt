@@ -1,53 +1,74 @@
-// What instructions of class files and statements of the register form do alike.
+// Small enumerations that class files and the register form share.
 use crate::{Same, TryCopy};
 use std::alloc::{AllocError, Global};
 
-/// The elements of an array, by the instruction that loads or stores one (Java specification 6.5,
-/// `iaload` to `sastore`). `Byte` is for arrays of `byte` and of `boolean`.
+/// What the elements of an array are, as the array instructions see it (Java specification 2.11.1).
 #[derive(Clone, Copy, Debug, PartialEq, Eq)]
 pub enum Elem {
+    /// `int`: 32 bits, signed.
     Int,
+    /// A reference, or null.
     Ref,
+    /// `byte` or `boolean`: 8 bits, signed.
     Byte,
+    /// `char`: 16 bits, unsigned.
     Char,
+    /// `short`: 16 bits, signed.
     Short,
 }
 
-/// An operation on two integers (Java specification 6.5, `iadd` to `ixor`).
+/// An operation on two ints (Java specification 2.11.3).
 #[derive(Clone, Copy, Debug, PartialEq, Eq)]
 pub enum ArithOp {
+    /// `iadd`: the sum.
     Add,
+    /// `isub`: the difference.
     Sub,
+    /// `imul`: the product.
     Mul,
+    /// `idiv`: the quotient, rounded towards 0.
     Div,
+    /// `irem`: the remainder of that quotient.
     Rem,
-    /// To the left.
+    /// `ishl`: a shift to the left by the low five bits of the second.
     Shl,
-    /// To the right, with the sign kept.
+    /// `ishr`: a shift to the right that keeps the sign.
     Shr,
-    /// To the right, with zeros shifted in.
+    /// `iushr`: a shift to the right that fills with zeros.
     Ushr,
+    /// `iand`: bitwise and.
     And,
+    /// `ior`: bitwise or.
     Or,
+    /// `ixor`: bitwise exclusive or.
     Xor,
 }
 
-/// A narrowing of an int (Java specification 6.5, `i2b`, `i2c` and `i2s`).
+/// A narrowing of an int (Java specification 2.11.4).
 #[derive(Clone, Copy, Debug, PartialEq, Eq)]
 pub enum NarrowOp {
+    /// `i2b`: to 8 bits, signed.
     Byte,
+    /// `i2c`: to 16 bits, unsigned.
     Char,
+    /// `i2s`: to 16 bits, signed.
     Short,
 }
 
-/// How two ints are compared (Java specification 6.5, `if<cond>` and `if_icmp<cond>`).
+/// A comparison of two ints, in the order of the branch instructions (Java specification 2.11.7).
 #[derive(Clone, Copy, Debug, PartialEq, Eq)]
 pub enum Relation {
+    /// Equal.
     Eq,
+    /// Not equal.
     Ne,
+    /// Less.
     Lt,
+    /// Greater or equal.
     Ge,
+    /// Greater.
     Gt,
+    /// Less or equal.
     Le,
 }
 

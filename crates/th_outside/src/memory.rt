@@ -90,6 +90,7 @@ impl Files for MemFiles {
 
         // Exactly the listed calls fail, where the file is there.
         ensures fails { IsErrOf result ReadError.Failed ↔ (Contains self.old.failing self.old.calls × (Lacks (Some self.old.files) name.now → ⊥)) }
+        ensures names { IsErrOf result ReadError.Failed → name_at self.new.files self.new.failed ≡ Some name.now }
         ensures same_failing { self.new.failing ≡ self.old.failing }
         ensures calls { self.new.calls ≡ min (self.old.calls + 1) (2 ^ 64 - 1) }
     {

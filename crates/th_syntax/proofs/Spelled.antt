@@ -1,13 +1,13 @@
 -- Reading a descriptor gives the one type that it spells.
-use Rattle.std.proofs.Common.{◌≡◌, ◌≢◌, ℕ, zero, suc, ◌+◌, ◌<◌, ◌≤◌, Bool, true, false, not, cond, eqb, ◌&&◌, ◌||◌, List, [], ◌∷◌, ◌++◌, length, refl, sym, ap, subst, ◌∙◌, append_assoc, arith}
-use Rattle.std.specs.Prelude.{Option, Some, None, ◌==◌, codes, nat_le, IsTrue, if◌then◌else◌}
+use Rattle.std.proofs.Common.{◌≡◌, ℕ, zero, suc, ◌<◌, ◌≤◌, Bool, true, false, not, cond, ◌&&◌, List, [], ◌∷◌, ◌++◌, length, refl, sym, ap, subst, ◌∙◌, append_assoc, arith}
+use Rattle.std.specs.Prelude.{Option, Some, None, ◌==◌, codes, nat_le}
 use Rattle.std.specs.List.{flat_map, list_all}
 use Rattle.std.specs.Option.{option_map, option_and_then}
-use Rattle.std.proofs.lemmas.Bool.{eqb-true, eq-eqb}
+use Rattle.std.proofs.lemmas.Bool.{eqb-true}
 use Rattle.std.proofs.lemmas.List.{append-nil, nil_from_length, length-append}
 use Rattle.std.proofs.lemmas.List.Concat.{flat_map-cons}
-use Rattle.th_syntax.specs.WellFormed.{is_name_byte, are_parts, is_class_name}
-use Rattle.th_syntax.specs.Descriptors.{FieldType, byte_type, char_type, double_type, float_type, int_type, long_type, short_type, boolean_type, class_type, array_type, type_bytes, dimensions, is_named_well, is_type, IsFieldDescriptor, MethodType, size_of, result_bytes, method_bytes, is_result, is_method_type, IsMethodDescriptor, base_type, name_before, element_at, type_at, alone, only_if, field_type_of, types_at, result_at, method_at, method_type_of}
+use Rattle.th_syntax.specs.WellFormed.{is_name_byte, are_parts}
+use Rattle.th_syntax.specs.Descriptors.{FieldType, byte_type, char_type, double_type, float_type, int_type, long_type, short_type, boolean_type, class_type, array_type, type_bytes, dimensions, is_named_well, is_type, IsFieldDescriptor, MethodType, result_bytes, method_bytes, is_result, is_method_type, IsMethodDescriptor, base_type, name_before, element_at, type_at, alone, only_if, field_type_of, types_at, result_at, method_at, method_type_of}
 
 -- ---- options and tests
 

@@ -1,5 +1,6 @@
 // The instructions of the profile.
 use std::alloc::{AllocError, Global};
+use std::hash::{Hash, Hasher};
 use th_base::{ArithOp, Elem, NarrowOp, Relation, Same, Seq, Text, TryCopy};
 
 /// A move of groups of stack slots (Java specification 6.5, `pop` to `swap`).
@@ -28,7 +29,7 @@ pub enum Primitive {
 }
 
 /// A symbolic reference to a field or a method (Java specification 4.4.2).
-#[derive(Debug, Drop, PartialEq, Eq, Hash)]
+#[derive(Debug, Drop)]
 pub struct MemberRef {
     /// The named class, or an array descriptor for a method of an array class.
     pub owner: Text,
@@ -133,6 +134,45 @@ impl TryCopy for MemberRef {
             name: self.name.copy(alloc)?,
             descriptor: self.descriptor.copy(alloc)?,
         })
+    }
+}
+
+impl PartialEq for MemberRef {
+    ghost use Rattle.std.proofs.Common.{rules};
+    ghost use Rattle.std.specs.Cmp.Rules.{comparing};
+    ghost use Rattle.th_syntax.specs.Refs.{is_same_ref};
+
+    ghost eq = { is_same_ref };
+
+    ghost laws = { Prim.search (comparing, rules) };
+
+    fn eq(&self, other: &MemberRef) -> bool {
+        self.owner == other.owner
+            && (self.name == other.name && self.descriptor == other.descriptor)
+    }
+}
+
+impl Eq for MemberRef {
+    ghost use Rattle.std.proofs.Common.{rules};
+    ghost use Rattle.std.specs.Cmp.Rules.{comparing};
+
+    ghost laws = { Prim.search (comparing, rules) };
+}
+
+impl Hash for MemberRef {
+    ghost use Rattle.std.specs.Prelude.{◌++◌};
+    ghost use Rattle.std.specs.Hash as fed;
+    ghost use Rattle.std.proofs.Common.{rules};
+    ghost use Rattle.std.specs.Cmp.Rules.{comparing, hashing};
+
+    ghost hash_input = { λ r. fed.slice fed.u8 r.owner ++ fed.slice fed.u8 r.name ++ fed.slice fed.u8 r.descriptor };
+
+    ghost respects_eq = { Prim.search (hashing, rules) };
+
+    fn hash<H: Hasher>(&self, state: &mut H) {
+        self.owner.hash(state);
+        self.name.hash(state);
+        self.descriptor.hash(state);
     }
 }
 

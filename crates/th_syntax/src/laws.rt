@@ -1,51 +1,68 @@
-// Laws over the definitions: functions that take nothing and do nothing, whose contracts hold.
-ghost use Rattle.std.specs.Prelude.{◌≡◌, ◌↔◌, ℕ, List, Some, Result, Ok, Err};
+// What every run of the machine keeps, over all programs and both lifecycles; and runs of small
+// programs, which show what the definitions say of them.
+ghost use Rattle.std.specs.Prelude.{◌≡◌, ◌⊎◌, ℕ, false, true, List, [], ◌∷◌, Some, None, slice_get};
+ghost use Rattle.std.specs.List.{AllByRecursion};
+ghost use Rattle.th_base.specs.declared.lifecycle.Lifecycle.{Lifecycle};
+ghost use Rattle.th_base.specs.declared.lifecycle.Lifecycle.TheVariants.{Any, Chart};
 ghost use Rattle.th_syntax.specs.declared.class_file.ClassFile.{ClassFile};
-ghost use Rattle.th_syntax.specs.declared.refusal.Flaw.{Flaw};
-ghost use Rattle.th_syntax.specs.Forms.{Form, Stands, IsFlawed, read};
-ghost use Rattle.th_syntax.specs.ClassBytes.{Pool, RawClass, RawCode};
-ghost use Rattle.th_syntax.specs.CodeBytes.{Spelled};
-ghost use Rattle.th_syntax.specs.Descriptors.{FieldType, MethodType, IsFieldDescriptor, IsMethodDescriptor, field_type_of, method_type_of};
-ghost use Rattle.th_syntax.specs.ClassGrammar.{IsClassFile};
-ghost use Rattle.th_syntax.specs.FirstFlaw.{FirstFlaw};
+ghost use Rattle.th_syntax.specs.Machine.{Value, NullValue, Address, Instance, State};
+ghost use Rattle.th_syntax.specs.Initial.{initial};
+ghost use Rattle.th_syntax.specs.Harness.{Launch, Handle, event};
+ghost use Rattle.th_syntax.specs.Program.{is_activity};
+ghost use Rattle.th_syntax.specs.Run.{IsReachable};
+ghost use Rattle.th_syntax.specs.Joined.{IsJoined};
+ghost use Rattle.th_syntax.specs.Facts.{IsOriginal, IsStoredInto, IsMade, EveryCodeBegins, IsAtInstruction};
+ghost use Rattle.th_syntax.specs.Worked.{plain_program, storing_program, clearing_program, one_launched};
 
-/// A byte list stands for at most one class file.
-pub fn one_value()
-    ensures { (bytes : List ℕ) (v w : ClassFile) → IsClassFile bytes v → IsClassFile bytes w → v ≡ w }
+pub mod class_files;
+
+/// A field of the program holds 0, null or its ConstantValue, unless a `putstatic` of the program
+/// resolves to it.
+pub fn statics_have_origins()
+    ensures { (lifecycle : Lifecycle) (files : List ClassFile) (s : State) (field : ℕ) (v : Value) → IsReachable lifecycle files s
+        → slice_get s.statics field ≡ Some v → IsOriginal files field v ⊎ IsStoredInto files field }
 {}
 
-/// A byte list that has a first flaw stands for no class file.
-pub fn flawed_stands_for_none()
-    ensures { (bytes : List ℕ) (flaw : Flaw) (v : ClassFile) → FirstFlaw bytes flaw → IsClassFile bytes v → ⊥ }
+/// An object of an Activity class is of a class that the harness launches or that a `new` of the
+/// program names.
+pub fn activities_are_made()
+    ensures { (lifecycle : Lifecycle) (files : List ClassFile) (s : State) (address class : ℕ) (fields : List (ℕ × Value)) → IsReachable lifecycle files s
+        → slice_get s.heap address ≡ Some (Instance class fields) → is_activity files class ≡ true → IsMade files class }
 {}
 
-/// Reading the form of the constant pool gives what stands at the front of the bytes by it, or what
-/// is wrong there.
-pub fn pool_reading()
-    ensures value { (form : Form Pool) (at : ℕ) (bytes : List ℕ) (value : Pool) (behind : ℕ) (others : List ℕ) → (read form at bytes ≡ Ok (value, behind, others)) ↔ Stands form at bytes value behind others }
-    ensures flaw { (form : Form Pool) (at : ℕ) (bytes : List ℕ) (flaw : Flaw) → (read form at bytes ≡ Err flaw) ↔ IsFlawed form at bytes flaw }
+/// Where the code of every method has an instruction at its start, each code frame stands at an
+/// instruction of its method.
+pub fn code_frames_stand()
+    ensures { (lifecycle : Lifecycle) (files : List ClassFile) (s : State) → EveryCodeBegins files → IsReachable lifecycle files s
+        → AllByRecursion (IsAtInstruction files) s.frames }
 {}
 
-/// The same of the form of a class file behind its magic number.
-pub fn class_reading()
-    ensures value { (form : Form RawClass) (at : ℕ) (bytes : List ℕ) (value : RawClass) (behind : ℕ) (others : List ℕ) → (read form at bytes ≡ Ok (value, behind, others)) ↔ Stands form at bytes value behind others }
-    ensures flaw { (form : Form RawClass) (at : ℕ) (bytes : List ℕ) (flaw : Flaw) → (read form at bytes ≡ Err flaw) ↔ IsFlawed form at bytes flaw }
+/// A launch of the Activity without fields ends with one launched object.
+pub fn plain_is_launched()
+    ensures { IsReachable Any plain_program (one_launched [] 0) }
 {}
 
-/// The same of the forms of a Code attribute's content and of an instruction.
-pub fn code_reading()
-    ensures content { (form : Form RawCode) (at : ℕ) (bytes : List ℕ) (value : RawCode) (behind : ℕ) (others : List ℕ) → (read form at bytes ≡ Ok (value, behind, others)) ↔ Stands form at bytes value behind others }
-    ensures instruction { (form : Form Spelled) (at : ℕ) (bytes : List ℕ) (value : Spelled) (behind : ℕ) (others : List ℕ) → (read form at bytes ≡ Ok (value, behind, others)) ↔ Stands form at bytes value behind others }
+/// The Activity that stores itself when it is created is then joined with its field.
+pub fn storing_is_joined()
+    ensures reached { IsReachable Any storing_program (one_launched (Address 0 ∷ []) 0) }
+    ensures joined { IsJoined storing_program (one_launched (Address 0 ∷ []) 0) 0 11 }
 {}
 
-/// The descriptors that spell a field's type, and no others, are read, and as that type.
-pub fn field_descriptors()
-    ensures { (bytes : List ℕ) (type : FieldType) → (field_type_of bytes ≡ Some type) ↔ IsFieldDescriptor bytes type }
-{
-}
+/// Under the chart creation leads from stage 0 to stage 1, and nothing is resumed at stage 0.
+pub fn chart_is_followed()
+    ensures created { IsReachable Chart storing_program (one_launched (Address 0 ∷ []) 1) }
+    ensures not_resumed { event Chart storing_program (one_launched (NullValue ∷ []) 0) (Handle 0 3 false) ≡ None }
+{}
 
-/// The descriptors that spell a method's parameters and result, and no others, are read, and as these.
-pub fn method_descriptors()
-    ensures { (bytes : List ℕ) (method : MethodType) → (method_type_of bytes ≡ Some method) ↔ IsMethodDescriptor bytes method }
-{
-}
+/// A built-in class is not launched.
+pub fn built_in_is_not_launched()
+    ensures { event Any storing_program (initial storing_program) (Launch 10) ≡ None }
+{}
+
+/// The Activity that clears its field when it is destroyed is joined with it before, and not after.
+pub fn clearing_is_cleared()
+    ensures kept { IsReachable Any clearing_program (one_launched (Address 0 ∷ []) 0) }
+    ensures joined { IsJoined clearing_program (one_launched (Address 0 ∷ []) 0) 0 11 }
+    ensures cleared { IsReachable Any clearing_program (one_launched (NullValue ∷ []) 0) }
+    ensures apart { (class : ℕ) → IsJoined clearing_program (one_launched (NullValue ∷ []) 0) 0 class → ⊥ }
+{}

@@ -4,18 +4,24 @@
 //! `Refusal` and `Flaw` say why a file is refused. `layout` has the items of a class file as they
 //! follow each other in its bytes.
 //!
-//! The definitions that the layers above cite stand in `specs/`: `Layout` has the bytes of the
-//! items as one concatenation, `Grammar` relates bytes to the class file that they stand for, and
-//! `Names` says which names and descriptors are well formed.
+//! The definitions that the layers above cite stand in `specs/`: `ClassGrammar` relates bytes to the
+//! class file that they stand for, and `FirstFlaw` other bytes to the reason why they are refused;
+//! docs/CLASS-FILES.md lists the checks. `Layout`, `Grammar` and `Names` have the part of class files
+//! that the first path takes. `Machine` has the states of the machine
+//! that runs a program, `Step` its steps, `Harness` the events that start code, `Run` its runs and
+//! `Joined` what a static field leads to; `laws` has what every run keeps. docs/MACHINE.md tells the
+//! same in plain words.
 #![tactic(auto)]
 
 mod class_file;
+mod flags;
 mod instr;
 pub mod laws;
 mod layout;
 mod refusal;
 
 pub use class_file::{ClassFile, Code, Constant, Member};
+pub use flags::{ACC_ABSTRACT, ACC_INTERFACE, ACC_NATIVE, ACC_STATIC, has_flag};
 pub use instr::{Instr, MemberRef, Primitive, StackOp};
 pub use layout::{FieldLayout, FileLayout, Group, MethodLayout, PoolEntry};
 pub use refusal::{Flaw, Refusal};

@@ -1,0 +1,9 @@
+pub mod Alike
+pub mod Ascending
+pub mod Built
+pub mod Enough
+pub mod Members
+pub mod Merge
+pub mod Ordered
+pub mod Rows
+pub mod Upwards

@@ -1,0 +1,11 @@
+pub mod Lists
+pub mod Counts
+pub mod Steps
+pub mod Opening
+pub mod FromCounts
+pub mod ToCounts
+pub mod Runs
+pub mod Replays
+pub mod Numbers
+pub mod Moves
+pub mod Closing

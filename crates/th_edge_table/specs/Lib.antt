@@ -1,0 +1,6 @@
+pub mod Number
+pub mod Core
+pub mod Facts
+pub mod Running
+pub mod Places
+pub mod Replay

@@ -1,0 +1,12 @@
+pub mod Ring
+pub mod Divisors
+pub mod Keeps
+pub mod Rounds
+pub mod Mixes
+pub mod Going
+pub mod Follows
+pub mod Terms
+pub mod Summing
+pub mod Greatest
+pub mod Normals
+pub mod Sums

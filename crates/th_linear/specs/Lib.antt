@@ -1,0 +1,6 @@
+pub mod Forms
+pub mod Normal
+pub mod Divided
+pub mod Mixed
+pub mod Summed
+pub mod Laws

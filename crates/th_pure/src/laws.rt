@@ -1,0 +1,15 @@
+//! What the definitions of the steps mean.
+ghost use Rattle.th_pure.specs.Laws.{RoundsEnd, VariablesStand, VariableVanishes};
+
+use th_linear::laws::one_sum;
+
+/// Rounds of substitution go on until no equation has a coefficient 1 or -1. The variables that are
+/// eliminated ascend, and are exactly those that stand in the facts. Each vanishes where two facts
+/// are combined.
+pub fn steps_mean()
+    ensures rounds { RoundsEnd }
+    ensures variables { VariablesStand }
+    ensures vanishes { VariableVanishes }
+{
+    one_sum();
+}

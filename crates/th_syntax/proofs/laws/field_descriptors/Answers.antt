@@ -1,5 +1,0 @@
-use Rattle.th_syntax.proofs.Spelled.{field_spelled, field_again}
-use Rattle.th_syntax.proofs.laws.field_descriptors.Goals as goal
-
-pub returns : goal.returns
-returns c = λ bytes type. (field_spelled bytes type, field_again bytes type)

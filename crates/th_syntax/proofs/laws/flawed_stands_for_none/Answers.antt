@@ -1,5 +1,0 @@
-use Rattle.th_syntax.proofs.OneReading.{flawed_none}
-use Rattle.th_syntax.proofs.laws.flawed_stands_for_none.Goals as goal
-
-pub returns : goal.returns
-returns c = flawed_none

@@ -1,5 +1,0 @@
-use Rattle.th_syntax.proofs.Spelled.{method_spelled, method_again}
-use Rattle.th_syntax.proofs.laws.method_descriptors.Goals as goal
-
-pub returns : goal.returns
-returns c = λ bytes type. (method_spelled bytes type, method_again bytes type)

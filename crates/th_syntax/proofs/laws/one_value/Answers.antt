@@ -1,5 +1,0 @@
-use Rattle.th_syntax.proofs.OneReading.{one_value}
-use Rattle.th_syntax.proofs.laws.one_value.Goals as goal
-
-pub returns : goal.returns
-returns c = one_value

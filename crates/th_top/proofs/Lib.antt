@@ -1,0 +1,12 @@
+pub mod Many
+pub mod Format
+pub mod ItemFormats
+pub mod Whole
+pub mod Values
+pub mod Sets
+pub mod Parts
+pub mod Fronts
+pub mod Sent
+pub mod Accepting
+pub mod Judging
+pub mod Answering

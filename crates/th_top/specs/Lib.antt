@@ -1,0 +1,9 @@
+pub mod Words
+pub mod Taking
+pub mod Items
+pub mod FirstForm
+pub mod Report
+pub mod Fetching
+pub mod Writing
+pub mod Status
+pub mod Answer

@@ -1,0 +1,9 @@
+pub mod Arguments
+pub mod Commands
+pub mod Numbers
+pub mod Passes
+pub mod WalkedWords
+pub mod Rows
+pub mod Spelling
+pub mod Turns
+pub mod WellFormed

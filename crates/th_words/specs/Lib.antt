@@ -1,0 +1,5 @@
+pub mod Pieces
+pub mod Table
+pub mod Values
+pub mod Reading
+pub mod Told

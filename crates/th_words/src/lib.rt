@@ -1,0 +1,26 @@
+//! The words of a command line, read as a command.
+//!
+//! The layer above calls `read_words` and uses its contract alone: the answer is `command_of` of
+//! the words, in both directions, but for want of memory. That definition stands in
+//! `specs/Reading.antt`, over a table with a row for each command (`specs/Table.antt`): its name,
+//! its options with kind, range and default, and its operands. How words are cut into options and
+//! operands stands in `specs/Pieces.antt`, and the module `laws` says what it means.
+//!
+//! A check of our own settles the shape of the words. `clap` then reads them as one simple
+//! command, and is proved, for any list of options, to take just the values and operands that
+//! stand in the words.
+#![tactic(auto)]
+
+mod command;
+mod given;
+pub mod laws;
+mod options;
+mod read;
+mod shape;
+mod values;
+
+pub use command::{Command, UsageFault};
+pub use read::read_words;
+
+#[cfg(test)]
+mod tests;

@@ -1,0 +1,8 @@
+use Rattle.std.proofs.lemmas.Nat.{xor_lt}
+use Rattle.std.specs.Prelude.{bit_xor}
+use Rattle.std.specs.Int.{w64}
+use Rattle.th_wrap.proofs.Widths.{bitwise_is}
+use Rattle.th_wrap.proofs.long.xor64.Goals as goal
+
+pub returns : goal.returns
+returns c = bitwise_is w64 c.args.a c.args.b c.ranges.a c.ranges.b bit_xor xor_lt
