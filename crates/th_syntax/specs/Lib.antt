@@ -14,3 +14,14 @@ pub mod Run
 pub mod Joined
 pub mod Facts
 pub mod Worked
+pub mod Forms
+pub mod ClassBytes
+pub mod Reading
+pub mod WellFormed
+pub mod Descriptors
+pub mod PoolChecks
+pub mod CodeBytes
+pub mod Decoding
+pub mod Checks
+pub mod ClassGrammar
+pub mod FirstFlaw

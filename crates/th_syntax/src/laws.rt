@@ -14,6 +14,8 @@ ghost use Rattle.th_syntax.specs.Joined.{IsJoined};
 ghost use Rattle.th_syntax.specs.Facts.{IsOriginal, IsStoredInto, IsMade, EveryCodeBegins, IsAtInstruction};
 ghost use Rattle.th_syntax.specs.Worked.{plain_program, storing_program, clearing_program, one_launched};
 
+pub mod class_files;
+
 /// A field of the program holds 0, null or its ConstantValue, unless a `putstatic` of the program
 /// resolves to it.
 pub fn statics_have_origins()

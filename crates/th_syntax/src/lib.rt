@@ -4,9 +4,10 @@
 //! `Refusal` and `Flaw` say why a file is refused. `layout` has the items of a class file as they
 //! follow each other in its bytes.
 //!
-//! The definitions that the layers above cite stand in `specs/`: `Layout` has the bytes of the
-//! items as one concatenation, `Grammar` relates bytes to the class file that they stand for, and
-//! `Names` says which names and descriptors are well formed. `Machine` has the states of the machine
+//! The definitions that the layers above cite stand in `specs/`: `ClassGrammar` relates bytes to the
+//! class file that they stand for, and `FirstFlaw` other bytes to the reason why they are refused;
+//! docs/CLASS-FILES.md lists the checks. `Layout`, `Grammar` and `Names` have the part of class files
+//! that the first path takes. `Machine` has the states of the machine
 //! that runs a program, `Step` its steps, `Harness` the events that start code, `Run` its runs and
 //! `Joined` what a static field leads to; `laws` has what every run keeps. docs/MACHINE.md tells the
 //! same in plain words.

@@ -1,0 +1,49 @@
+// What the definitions of class files keep: functions that take nothing and do nothing, whose contracts hold.
+ghost use Rattle.std.specs.Prelude.{◌≡◌, ◌↔◌, ℕ, List, Some, Result, Ok, Err};
+ghost use Rattle.th_syntax.specs.declared.class_file.ClassFile.{ClassFile};
+ghost use Rattle.th_syntax.specs.declared.refusal.Flaw.{Flaw};
+ghost use Rattle.th_syntax.specs.Forms.{Form, Stands, IsFlawed, read};
+ghost use Rattle.th_syntax.specs.ClassBytes.{Pool, RawClass, RawCode};
+ghost use Rattle.th_syntax.specs.CodeBytes.{Spelled};
+ghost use Rattle.th_syntax.specs.Descriptors.{FieldType, MethodType, IsFieldDescriptor, IsMethodDescriptor, field_type_of, method_type_of};
+ghost use Rattle.th_syntax.specs.ClassGrammar.{IsClassFile};
+ghost use Rattle.th_syntax.specs.FirstFlaw.{FirstFlaw};
+
+/// A byte list stands for at most one class file.
+pub fn one_value()
+    ensures { (bytes : List ℕ) (v w : ClassFile) → IsClassFile bytes v → IsClassFile bytes w → v ≡ w }
+{}
+
+/// A byte list that has a first flaw stands for no class file.
+pub fn flawed_stands_for_none()
+    ensures { (bytes : List ℕ) (flaw : Flaw) (v : ClassFile) → FirstFlaw bytes flaw → IsClassFile bytes v → ⊥ }
+{}
+
+/// Reading the form of the constant pool gives what stands at the front of the bytes by it, or what
+/// is wrong there.
+pub fn pool_reading()
+    ensures value { (form : Form Pool) (at : ℕ) (bytes : List ℕ) (value : Pool) (behind : ℕ) (others : List ℕ) → (read form at bytes ≡ Ok (value, behind, others)) ↔ Stands form at bytes value behind others }
+    ensures flaw { (form : Form Pool) (at : ℕ) (bytes : List ℕ) (flaw : Flaw) → (read form at bytes ≡ Err flaw) ↔ IsFlawed form at bytes flaw }
+{}
+
+/// The same of the form of a class file behind its magic number.
+pub fn class_reading()
+    ensures value { (form : Form RawClass) (at : ℕ) (bytes : List ℕ) (value : RawClass) (behind : ℕ) (others : List ℕ) → (read form at bytes ≡ Ok (value, behind, others)) ↔ Stands form at bytes value behind others }
+    ensures flaw { (form : Form RawClass) (at : ℕ) (bytes : List ℕ) (flaw : Flaw) → (read form at bytes ≡ Err flaw) ↔ IsFlawed form at bytes flaw }
+{}
+
+/// The same of the forms of a Code attribute's content and of an instruction.
+pub fn code_reading()
+    ensures content { (form : Form RawCode) (at : ℕ) (bytes : List ℕ) (value : RawCode) (behind : ℕ) (others : List ℕ) → (read form at bytes ≡ Ok (value, behind, others)) ↔ Stands form at bytes value behind others }
+    ensures instruction { (form : Form Spelled) (at : ℕ) (bytes : List ℕ) (value : Spelled) (behind : ℕ) (others : List ℕ) → (read form at bytes ≡ Ok (value, behind, others)) ↔ Stands form at bytes value behind others }
+{}
+
+/// The descriptors that spell a field's type, and no others, are read, and as that type.
+pub fn field_descriptors()
+    ensures { (bytes : List ℕ) (type : FieldType) → (field_type_of bytes ≡ Some type) ↔ IsFieldDescriptor bytes type }
+{}
+
+/// The descriptors that spell a method's parameters and result, and no others, are read, and as these.
+pub fn method_descriptors()
+    ensures { (bytes : List ℕ) (method : MethodType) → (method_type_of bytes ≡ Some method) ↔ IsMethodDescriptor bytes method }
+{}
