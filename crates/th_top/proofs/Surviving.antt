@@ -127,13 +127,13 @@ without_constants : (bytes : List ℕ) (class : ClassFile) → StandsFor bytes c
 without_constants bytes class stands =
     let f = stands.items in
     let whole = cond_is (list_all (is_sound_entry f.pool) f.pool) (option_and_then (λ name. option_and_then (λ super. option_and_then (λ fields. option_map (λ methods. class_with f name super fields methods)
-      (all_there (map (method_value f.pool) f.methods))) (all_there (map (field_value f.pool) f.fields))) (class_at f.pool f.super_class)) (class_at f.pool f.this_class)) class stands.value in
+    (all_there (map (method_value f.pool) f.methods))) (all_there (map (field_value f.pool) f.fields))) (class_at f.pool f.super_class)) (class_at f.pool f.this_class)) class stands.value in
     let name = and_then_some (λ (name : List ℕ). option_and_then (λ super. option_and_then (λ fields. option_map (λ methods. class_with f name super fields methods)
-      (all_there (map (method_value f.pool) f.methods))) (all_there (map (field_value f.pool) f.fields))) (class_at f.pool f.super_class)) (class_at f.pool f.this_class) class whole in
+    (all_there (map (method_value f.pool) f.methods))) (all_there (map (field_value f.pool) f.fields))) (class_at f.pool f.super_class)) (class_at f.pool f.this_class) class whole in
     let super = and_then_some (λ (super : List ℕ). option_and_then (λ fields. option_map (λ methods. class_with f name.0 super fields methods)
-      (all_there (map (method_value f.pool) f.methods))) (all_there (map (field_value f.pool) f.fields))) (class_at f.pool f.super_class) class name.2 in
+    (all_there (map (method_value f.pool) f.methods))) (all_there (map (field_value f.pool) f.fields))) (class_at f.pool f.super_class) class name.2 in
     let fields = and_then_some (λ (fields : List Member). option_map (λ methods. class_with f name.0 super.0 fields methods)
-      (all_there (map (method_value f.pool) f.methods))) (all_there (map (field_value f.pool) f.fields)) class super.2 in
+    (all_there (map (method_value f.pool) f.methods))) (all_there (map (field_value f.pool) f.fields)) class super.2 in
     let methods = map_some (λ (methods : List Member). class_with f name.0 super.0 fields.0 methods) (all_there (map (method_value f.pool) f.methods)) class fields.2 in
     let same : fields.0 ≡ class.fields = ap (λ (c : ClassFile). c.fields) methods.2 in
     subst (AllByRecursion HasNone) same (fields_without f.pool f.fields fields.0 fields.1)
@@ -201,7 +201,12 @@ instr_in files method offset i e =
     let placed = map_some (λ (i : ℕ × Instr). i.1) (find (λ i. i.0 == offset) code.0.instrs) i code.2 in
     let found = found_at (λ (i : ℕ × Instr). i.0 == offset) code.0.instrs placed.0 placed.1 in
     record {
-      owned = owned.0; code = code.0; place = found.place; at = placed.0.0; is_method = owned.1; has_code = owned.2;
+      owned = owned.0;
+      code = code.0;
+      place = found.place;
+      at = placed.0.0;
+      is_method = owned.1;
+      has_code = owned.2;
       stands = found.stands ∙ ap (λ (x : ℕ × Instr). let o : Option (ℕ × Instr) = Some x in o) (pair_is placed.0 i placed.2);
     }
 
@@ -209,7 +214,7 @@ plain_at : (class : ClassFile) (method : ℕ) (i : Instr) → IsFirstForm class 
 plain_at class method i form found =
     let plain = all_test_at (has_plain_code class) (methods_of (alone class)) method found.owned (all_plain class form) found.is_method in
     let whole : list_all (λ j. is_plain_instr (declares_static class) j.1) found.code.instrs ≡ true =
-      ap (λ (o : Option Code). option_map_or (λ code. list_all (λ j. is_plain_instr (declares_static class) j.1) code.instrs) o true) (sym found.has_code) ∙ plain in
+    ap (λ (o : Option Code). option_map_or (λ code. list_all (λ j. is_plain_instr (declares_static class) j.1) code.instrs) o true) (sym found.has_code) ∙ plain in
     all_test_at (λ (j : ℕ × Instr). is_plain_instr (declares_static class) j.1) found.code.instrs found.place (found.at, i) whole found.stands
 
 not_created : (class : ClassFile) (number : ℕ) → IsFirstForm class → IsCreated (alone class) number → ⊥
@@ -234,8 +239,12 @@ info_at (m ∷ ms) n zero info e =
     let made : FieldInfo = record { id = record { 0 = n }; name = m.name; descriptor = m.descriptor; is_static = is_static m } in
     let same : made ≡ info = some_is made info e in
     record {
-      place = 0; member = m; stands = refl; numbered = sym (ap (λ (f : FieldInfo). f.id.0) same) ∙ (let h : n ≡ n + 0 = omega arith in h);
-      name = sym (ap (λ (f : FieldInfo). f.name) same); descriptor = sym (ap (λ (f : FieldInfo). f.descriptor) same);
+      place = 0;
+      member = m;
+      stands = refl;
+      numbered = sym (ap (λ (f : FieldInfo). f.id.0) same) ∙ (let h : n ≡ n + 0 = omega arith in h);
+      name = sym (ap (λ (f : FieldInfo). f.name) same);
+      descriptor = sym (ap (λ (f : FieldInfo). f.descriptor) same);
     }
 info_at (m ∷ ms) n (suc k) info e =
     let rest = info_at ms (n + 1) k info e in
@@ -371,7 +380,8 @@ is_alarm class field number o form stored (inl launchable) at static_one =
     let alarm = filtered_at (is_alarming (is_stored class) class) class.fields field place.member place.stands (alarming class field place.member form stored place.stands static_member) in
     let launched = launched_class class number launchable in
     record {
-      place = alarm.0; alarm = place.member;
+      place = alarm.0;
+      alarm = place.member;
       listed = in_alarms class place.member alarm.0 (can_be_made class) launched.1 alarm.1;
       field_is = at ∙ ap (λ (x : Owned). let y : Option Owned = Some x in y) (place.is ∙ ap (λ n. let x : Owned = record { owner = n; member = place.member } in x) (sym launched.0));
       class_is = ap (λ n. slice_get (all_classes (alone class)) n) launched.0;
