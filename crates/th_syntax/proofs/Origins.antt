@@ -76,9 +76,9 @@ opened_good files s c good = record {
   heap = good.heap;
   frames = (tt, good.frames);
   statics = λ k v e.
-    let from = opened_from files c (fields_of files) s.statics k v e in
-    opened_explained files k v from.old from.field (from.field.owner == c && is_static from.field.member) from.field.member.constant from.numbered refl from.value
-    (good.statics k from.old from.held);
+      let from = opened_from files c (fields_of files) s.statics k v e in
+      opened_explained files k v from.old from.field (from.field.owner == c && is_static from.field.member) from.field.member.constant from.numbered refl from.value
+      (good.statics k from.old from.held);
 }
 
 where_good : (files : List ClassFile) (s : State) (mark : Option Mark) (c : ℕ) → Good files s → Good files (opened_where files s mark c)

@@ -56,7 +56,14 @@ created_at_stage = after_event Chart storing_program (one_launched (NullValue �
 pub stored : IsJoined storing_program (one_launched (Address 0 ∷ []) 0) 0 11
 stored = record {
   is_field = record { declared = record { owner = 11; member = last_field }; numbered = refl; static_one = refl; reference = refl };
-  is_activity_class = refl; value = Address 0; held = refl; address = 0; leads = here; object = Instance 11 []; stands = refl; exactly = refl;
+  is_activity_class = refl;
+  value = Address 0;
+  held = refl;
+  address = 0;
+  leads = here;
+  object = Instance 11 [];
+  stands = refl;
+  exactly = refl;
 }
 
 -- the chart has no resumption of an object that is only launched, and no launch of a built-in class
@@ -79,7 +86,14 @@ cleared = after_event Any clearing_program (one_launched (Address 0 ∷ []) 0) (
 pub joined_before : IsJoined clearing_program (one_launched (Address 0 ∷ []) 0) 0 11
 joined_before = record {
   is_field = record { declared = record { owner = 11; member = last_field }; numbered = refl; static_one = refl; reference = refl };
-  is_activity_class = refl; value = Address 0; held = refl; address = 0; leads = here; object = Instance 11 []; stands = refl; exactly = refl;
+  is_activity_class = refl;
+  value = Address 0;
+  held = refl;
+  address = 0;
+  leads = here;
+  object = Instance 11 [];
+  stands = refl;
+  exactly = refl;
 }
 
 null_leads : {heap : List Object} {to : ℕ} {v : Value} → Leads heap to v → v ≡ NullValue → ⊥

@@ -91,5 +91,7 @@ initial files = record {
   heap = map (λ text. new_object files string_number) (string_constants files);
   statics = map (λ f. default_value f.member.descriptor) (fields_of files);
   marks = map (λ c. Done) built_in_classes ++ map (λ c. Untouched) files;
-  frames = []; launched = []; ended = false;
+  frames = [];
+  launched = [];
+  ended = false;
 }

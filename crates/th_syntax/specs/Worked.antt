@@ -25,7 +25,10 @@ super_constructor = record { owner = activity_class; name = codes "<init>"; desc
 -- a method of two instructions, of one and of three bytes, and `return`
 abbrev pub method_of_two : List ℕ → List ℕ → Instr → Instr → Member
 method_of_two name descriptor first second = record {
-  access = 1; name = name; descriptor = descriptor; constant = None;
+  access = 1;
+  name = name;
+  descriptor = descriptor;
+  constant = None;
   code = Some record { max_stack = 1; max_locals = 2; instrs = (0, first) ∷ (1, second) ∷ (4, Return) ∷ []; handlers = 0 };
 }
 
@@ -44,7 +47,13 @@ clearing_method = method_of_two (codes "onDestroy") (codes "()V") Null (PutStati
 -- an Activity with these fields and methods
 abbrev pub activity_with : List Member → List Member → ClassFile
 activity_with fields methods = record {
-  major = 52; access = 33; name = codes "Act"; super_name = Some activity_class; interfaces = []; fields = fields; methods = methods;
+  major = 52;
+  access = 33;
+  name = codes "Act";
+  super_name = Some activity_class;
+  interfaces = [];
+  fields = fields;
+  methods = methods;
 }
 
 -- an Activity without fields
@@ -68,6 +77,10 @@ steps files (suc n) s = steps files n (option_and_then (step files) s)
 -- launched, at this stage
 abbrev pub one_launched : List Value → ℕ → State
 one_launched statics stage = record {
-  heap = Instance 11 [] ∷ []; statics = statics; marks = map (λ c. Done) built_in_classes ++ Done ∷ []; frames = [];
-  launched = record { object = 0; stage = stage } ∷ []; ended = false;
+  heap = Instance 11 [] ∷ [];
+  statics = statics;
+  marks = map (λ c. Done) built_in_classes ++ Done ∷ [];
+  frames = [];
+  launched = record { object = 0; stage = stage } ∷ [];
+  ended = false;
 }
