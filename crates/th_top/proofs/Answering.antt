@@ -1,7 +1,7 @@
 -- What follows from what is decided, and from what the store tells.
-use Rattle.std.proofs.Common.{◌≡◌, ◌≢◌, ℕ, ◌+◌, ◌<◌, List, [], length, Option, None, Some, Result, Ok, Err, refl, sym, ap, subst, ◌∙◌, arith, inl, inr}
+use Rattle.std.proofs.Common.{◌≡◌, ℕ, ◌<◌, List, [], length, Option, None, Some, Result, Ok, Err, refl, sym, ap, subst, ◌∙◌, arith, inl, inr}
 use Rattle.th_syntax.specs.declared.class_file.ClassFile.{ClassFile}
-use Rattle.th_outside.specs.Store.{NamedFile, content, Lacks}
+use Rattle.th_outside.specs.Store.{NamedFile, Lacks}
 use Rattle.th_top.specs.FirstForm.{IsAccepted}
 use Rattle.th_top.specs.Report.{report_of}
 use Rattle.th_top.specs.Answer.{MayHold, IsTold, Accepts, status_for, DecidesReport, DecidesFile, Decides, line_of}

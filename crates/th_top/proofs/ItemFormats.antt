@@ -11,7 +11,7 @@ use Rattle.th_syntax.specs.declared.layout.FieldLayout.{FieldLayout}
 use Rattle.th_syntax.specs.declared.layout.MethodLayout.{MethodLayout}
 use Rattle.th_syntax.specs.declared.layout.FileLayout.{FileLayout}
 use Rattle.th_syntax.specs.Layout.{entry_bytes, group_bytes, field_bytes, method_bytes, file_bytes, code_length}
-use Rattle.th_top.specs.Taking.{Taken, Takes}
+use Rattle.th_top.specs.Taking.{Takes}
 use Rattle.th_top.specs.Items.{body_at, entry_at, operand_at, group_at, is_code_length, code_at, has_length, CodeParts, code_parts_at, FieldParts, field_of_parts, field_at, MethodParts, method_of_parts, method_at, FileParts, file_of_parts, file_at}
 use Rattle.th_top.proofs.Format.{Format, IsBytes, Splits, FitsOne, number, wide8, wide16, wide32, after, pair, only, as_some, choice, never, run, repeat}
 

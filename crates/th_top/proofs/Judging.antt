@@ -1,12 +1,12 @@
 -- What is decided of the front of a file that was read is decided of the file.
-use Rattle.std.proofs.Common.{◌≡◌, ◌≢◌, ℕ, ◌+◌, ◌==◌, ◌≤◌, Bool, true, false, cond, List, [], length, take, Option, None, Some, Result, Ok, Err, IfSome, refl, ap, sym, ◌∙◌, arith, subst, inl, inr, length-take}
+use Rattle.std.proofs.Common.{◌≡◌, ◌≢◌, ℕ, ◌==◌, ◌≤◌, Bool, true, false, cond, List, [], length, take, Option, None, Some, Result, Ok, Err, IfSome, refl, ap, sym, ◌∙◌, arith, subst, length-take}
 use Rattle.std.proofs.lemmas.List.{take_all}
 use Rattle.th_syntax.specs.declared.class_file.ClassFile.{ClassFile}
 use Rattle.th_outside.specs.Store.{NamedFile, content, Lacks}
 use Rattle.th_top.specs.FirstForm.{IsAccepted}
 use Rattle.th_top.specs.Report.{alarms_of, report_of}
 use Rattle.th_top.specs.Fetching.{IsFront}
-use Rattle.th_top.specs.Answer.{MayHold, Accepts, Rejects, status_for, DecidesAccepted, DecidesRejected, DecidesBytes, DecidesReport, DecidesRefusal, DecidesFile, refused_line}
+use Rattle.th_top.specs.Answer.{Accepts, Rejects, status_for, DecidesAccepted, DecidesBytes, DecidesReport, DecidesFile}
 use Rattle.std.specs.Prelude.{IfOk}
 use Rattle.std.specs.declared.alloc.AllocError.{AllocError}
 use Rattle.th_top.specs.declared.decide.Decided.{Decided}

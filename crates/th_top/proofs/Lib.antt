@@ -11,3 +11,4 @@ pub mod Accepting
 pub mod Judging
 pub mod Answering
 pub mod Surviving
+pub mod Beginning

@@ -1,5 +1,5 @@
 -- The alarms of an accepted class are enough: what is joined in a reachable state is among them.
-use Rattle.std.proofs.Common.{◌≡◌, ℕ, zero, suc, ◌+◌, ◌-◌, ◌<◌, ◌≤◌, ◌==◌, ◌&&◌, ◌||◌, ◌⊎◌, inl, inr, Bool, true, false, cond, not, List, [], ◌∷◌, ◌++◌, length, Option, None, Some, slice_get, codes, refl, sym, ap, subst, ◌∙◌, if◌then◌else◌, arith}
+use Rattle.std.proofs.Common.{◌≡◌, ℕ, zero, suc, ◌+◌, ◌-◌, ◌≤◌, ◌==◌, ◌&&◌, ◌||◌, ◌⊎◌, inl, inr, Bool, true, false, cond, List, [], ◌∷◌, ◌++◌, Option, None, Some, slice_get, refl, sym, ap, subst, ◌∙◌, if◌then◌else◌, arith}
 use Rattle.std.specs.Prelude.{map, find, filter, nat_lt}
 use Rattle.std.specs.List.{list_any, list_all, AllByRecursion}
 use Rattle.std.specs.Option.{option_and_then, option_map, option_map_or, option_or}
@@ -23,27 +23,27 @@ use Rattle.th_syntax.specs.declared.instr.MemberRef.{MemberRef}
 use Rattle.th_syntax.specs.Flags.{is_static}
 use Rattle.th_syntax.specs.Refs.{is_same_ref}
 use Rattle.th_syntax.specs.Grammar.{StandsFor, class_file_of, class_with, all_there, field_value, member_value, member_with, method_value, is_sound_entry, text_at, class_at, member_ref}
-use Rattle.th_syntax.specs.Machine.{Value, NullValue, Address, Object, Instance, Array, State}
+use Rattle.th_syntax.specs.Machine.{Value, NullValue, Object, Instance, Array, State}
 use Rattle.th_syntax.specs.Program.{Owned, all_classes, fields_of, methods_of, field_infos, hierarchy_of, number_named, code_of, instr_at, file_class, is_activity}
-use Rattle.th_syntax.specs.Initial.{is_reference, is_long, default_value, constant_value}
+use Rattle.th_syntax.specs.Initial.{is_reference, is_long, default_value}
 use Rattle.th_syntax.specs.Step.{field_resolved}
 use Rattle.th_syntax.specs.Harness.{can_be_made, is_launchable}
 use Rattle.th_syntax.specs.Run.{IsReachable}
-use Rattle.th_syntax.specs.Joined.{IsJoined, IsOfClass, Leads, here, through}
+use Rattle.th_syntax.specs.Joined.{IsOfClass, Leads, here, through}
 use Rattle.th_syntax.specs.Facts.{IsOriginal, IsStoredInto, IsCreated, IsMade}
 use Rattle.th_syntax.proofs.Inverting.{and_then_some, map_some, map_or_true, some_is, all_at}
-use Rattle.th_top.specs.FirstForm.{ref_to, is_static_named, declares_static, is_plain_instr, is_plain_code, is_plain_method, has_room, has_plain_flags, has_plain_name, has_bundle, IsFirstForm, IsAccepted}
+use Rattle.th_top.specs.FirstForm.{ref_to, is_static_named, declares_static, is_plain_instr, is_plain_code, is_plain_method, has_room, has_plain_flags, has_plain_name, IsFirstForm, IsAccepted}
 use Rattle.th_top.specs.Report.{stores_into, method_stores, is_stored, is_alarming, alarms_of}
 use Rattle.th_top.specs.Safety.{IsAlarm, AreAllAlarms}
 use Rattle.th_top.proofs.Sets.{both_true, same_is, same_of}
 
 -- ---- lists and tests
 
-cond_is : {A : Type 0} (b : Bool) (o : Option A) (y : A) → (if b then o else None) ≡ Some y → o ≡ Some y
+pub cond_is : {A : Type 0} (b : Bool) (o : Option A) (y : A) → (if b then o else None) ≡ Some y → o ≡ Some y
 cond_is true o y e = e
 cond_is false o y e = absurd cc
 
-all_test_at : {A : Type 0} (test : A → Bool) (xs : List A) (k : ℕ) (x : A) → list_all test xs ≡ true → slice_get xs k ≡ Some x → test x ≡ true
+pub all_test_at : {A : Type 0} (test : A → Bool) (xs : List A) (k : ℕ) (x : A) → list_all test xs ≡ true → slice_get xs k ≡ Some x → test x ≡ true
 all_test_at test [] k x all e = absurd cc
 all_test_at test (y ∷ xs) zero x all e = ap test (sym (some_is y x e)) ∙ (both_true (test y) (list_all test xs) all).0
 all_test_at test (y ∷ xs) (suc k) x all e = all_test_at test xs k x (both_true (test y) (list_all test xs) all).1 e
@@ -123,20 +123,33 @@ fields_without pool [] ms e = subst (AllByRecursion HasNone) (some_is [] ms e) t
 fields_without pool (f ∷ fs) ms e =
     cons_without (field_value pool f) (map (field_value pool) fs) ms (λ m. member_without pool f.access f.name f.descriptor m) (λ xs. fields_without pool fs xs) e
 
+-- the fields and the methods of a class are those of its items
+pub record HasParts (f : FileLayout) (class : ClassFile) : Type 0 where
+  pub fields : all_there (map (field_value f.pool) f.fields) ≡ Some class.fields
+  pub methods : all_there (map (method_value f.pool) f.methods) ≡ Some class.methods
+
+parts_of_class : (f : FileLayout) (name super : List ℕ) (class : ClassFile) (fields : Option (List Member)) (methods : Option (List Member))
+    → option_and_then (λ fs. option_map (λ ms. class_with f name super fs ms) methods) fields ≡ Some class → (fields ≡ Some class.fields) × (methods ≡ Some class.methods)
+parts_of_class f name super class None methods e = absurd cc
+parts_of_class f name super class (Some fs) None e = absurd cc
+parts_of_class f name super class (Some fs) (Some ms) e =
+    let same : class_with f name super fs ms ≡ class = some_is (class_with f name super fs ms) class e in
+    (ap (λ (c : ClassFile). let o : Option (List Member) = Some c.fields in o) same, ap (λ (c : ClassFile). let o : Option (List Member) = Some c.methods in o) same)
+
+class_named_parts : (f : FileLayout) (class : ClassFile) (name super : Option (List ℕ)) (fields methods : Option (List Member))
+    → option_and_then (λ n. option_and_then (λ s. option_and_then (λ fs. option_map (λ ms. class_with f n s fs ms) methods) fields) super) name ≡ Some class → (fields ≡ Some class.fields) × (methods ≡ Some class.methods)
+class_named_parts f class None super fields methods e = absurd cc
+class_named_parts f class (Some n) None fields methods e = absurd cc
+class_named_parts f class (Some n) (Some s) fields methods e = parts_of_class f n s class fields methods e
+
+pub class_parts : (f : FileLayout) (class : ClassFile) → class_file_of f ≡ Some class → HasParts f class
+class_parts f class e =
+    let parts = class_named_parts f class (class_at f.pool f.this_class) (class_at f.pool f.super_class) (all_there (map (field_value f.pool) f.fields)) (all_there (map (method_value f.pool) f.methods))
+    (cond_is (list_all (is_sound_entry f.pool) f.pool) _ class e) in
+    record { fields = parts.0; methods = parts.1 }
+
 without_constants : (bytes : List ℕ) (class : ClassFile) → StandsFor bytes class → AllByRecursion HasNone class.fields
-without_constants bytes class stands =
-    let f = stands.items in
-    let whole = cond_is (list_all (is_sound_entry f.pool) f.pool) (option_and_then (λ name. option_and_then (λ super. option_and_then (λ fields. option_map (λ methods. class_with f name super fields methods)
-    (all_there (map (method_value f.pool) f.methods))) (all_there (map (field_value f.pool) f.fields))) (class_at f.pool f.super_class)) (class_at f.pool f.this_class)) class stands.value in
-    let name = and_then_some (λ (name : List ℕ). option_and_then (λ super. option_and_then (λ fields. option_map (λ methods. class_with f name super fields methods)
-    (all_there (map (method_value f.pool) f.methods))) (all_there (map (field_value f.pool) f.fields))) (class_at f.pool f.super_class)) (class_at f.pool f.this_class) class whole in
-    let super = and_then_some (λ (super : List ℕ). option_and_then (λ fields. option_map (λ methods. class_with f name.0 super fields methods)
-    (all_there (map (method_value f.pool) f.methods))) (all_there (map (field_value f.pool) f.fields))) (class_at f.pool f.super_class) class name.2 in
-    let fields = and_then_some (λ (fields : List Member). option_map (λ methods. class_with f name.0 super.0 fields methods)
-    (all_there (map (method_value f.pool) f.methods))) (all_there (map (field_value f.pool) f.fields)) class super.2 in
-    let methods = map_some (λ (methods : List Member). class_with f name.0 super.0 fields.0 methods) (all_there (map (method_value f.pool) f.methods)) class fields.2 in
-    let same : fields.0 ≡ class.fields = ap (λ (c : ClassFile). c.fields) methods.2 in
-    subst (AllByRecursion HasNone) same (fields_without f.pool f.fields fields.0 fields.1)
+without_constants bytes class stands = fields_without stands.items.pool stands.items.fields class.fields (class_parts stands.items class stands.value).fields
 
 -- ---- the program of one class
 

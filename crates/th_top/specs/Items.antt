@@ -1,5 +1,5 @@
 -- The items of a class file as the private reader takes them, from left to right. No public clause cites this module.
-use Rattle.std.specs.Prelude.{ℕ, ◌+◌, ◌-◌, ◌/◌, ◌%◌, ◌==◌, ◌&&◌, List, [], length, Bool, Option, None, Some, nat_lt, nat_le, if◌then◌else◌}
+use Rattle.std.specs.Prelude.{ℕ, ◌+◌, ◌-◌, ◌/◌, ◌%◌, ◌==◌, ◌&&◌, List, length, Bool, Option, None, Some, nat_lt, nat_le, if◌then◌else◌}
 use Rattle.std.specs.Int.{w8, w16, w32}
 use Rattle.th_syntax.specs.declared.layout.PoolEntry.{PoolEntry}
 use Rattle.th_syntax.specs.declared.layout.PoolEntry.TheVariants.{Utf8, Class, Field, Method, NameAndType}

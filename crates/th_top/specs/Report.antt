@@ -1,12 +1,10 @@
 -- The report of one class by its code alone: which static fields may keep an Activity alive, as far as stores and constructors show.
-use Rattle.std.specs.Prelude.{ℕ, ◌≡◌, ◌+◌, ◌&&◌, Bool, false, not, List, [], ◌∷◌, ◌++◌, codes, length, filter, if◌then◌else◌, Option, Some, None}
+use Rattle.std.specs.Prelude.{ℕ, ◌≡◌, ◌+◌, ◌&&◌, Bool, false, List, [], ◌∷◌, ◌++◌, codes, length, filter, if◌then◌else◌, Option, Some, None}
 use Rattle.std.specs.List.{list_any}
 use Rattle.std.specs.Option.{option_map_or}
-use Rattle.std.specs.Str.{bytes_eq}
 use Rattle.std.specs.Fmt.{decimal}
 use Rattle.th_syntax.specs.declared.class_file.ClassFile.{ClassFile}
 use Rattle.th_syntax.specs.declared.class_file.Member.{Member}
-use Rattle.th_syntax.specs.declared.class_file.Code.{Code}
 use Rattle.th_syntax.specs.declared.instr.MemberRef.{MemberRef}
 use Rattle.th_syntax.specs.declared.instr.Instr.{Instr}
 use Rattle.th_syntax.specs.declared.instr.Instr.TheVariants.{PutStatic}

@@ -1,7 +1,6 @@
-use Rattle.std.proofs.Common.{inl, sym, ap, ◌∙◌}
+use Rattle.std.proofs.Common.{inl}
 use Rattle.th_top.proofs.Answering.{report_file, text_file, refused_file, missing_file, nothing_more, line_is}
 use Rattle.th_top.specs.Report.{alarms_of}
-use Rattle.th_top.specs.Writing.{with_text}
 use Rattle.th_top.proofs.top.thresher.Goals as goal
 
 pub returns-in-Ok-write_text-clause-line : goal.returns-in-Ok-write_text-clause-line
