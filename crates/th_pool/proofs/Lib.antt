@@ -1,0 +1,9 @@
+pub mod Numbers
+pub mod Parts
+pub mod Contents
+pub mod Entries
+pub mod Loop
+pub mod Sound
+pub mod Ascending
+pub mod Spelling
+pub mod Methods

@@ -1,0 +1,6 @@
+pub mod PoolView
+pub mod Gives
+pub mod First
+pub mod Shapes
+pub mod Types
+pub mod Params

@@ -1,0 +1,141 @@
+// What indices of the pool lead to, over the list of what each index leads to.
+ghost use Rattle.std.specs.Prelude.{◌≡◌};
+ghost use Rattle.std.specs.Option.{option_copied, option_map, option_and_then};
+ghost use Rattle.th_syntax.specs.ClassBytes as file;
+ghost use Rattle.th_syntax.specs.PoolChecks as checks;
+ghost use Rattle.th_pool.specs.PoolView.{entry_view, slots_view, member_view, names_view};
+
+use crate::entry::{Entry, PlacedEntry};
+
+// A field or a method: the tag of its entry, its owner, its name and its descriptor.
+pub type NamedMember<'a> = (u8, &'a [u8], &'a [u8], &'a [u8]);
+
+pub fn entry_of<'a>(slots: &[Option<PlacedEntry<'a>>], index: u16) -> Option<Entry<'a>>
+    ensures { option_map entry_view result ≡ checks.entry_of (slots_view slots.now) index }
+{
+    match slots.get(index as usize) {
+        Some(Some(placed)) => Some(placed.entry),
+        _ => None,
+    }
+}
+
+pub fn tag_of(entry: Entry) -> u8
+    ensures { result ≡ file.tag_of (entry_view entry.entry) }
+{
+    match entry {
+        Entry::Utf8(_) => 1,
+        Entry::Integer(_) => 3,
+        Entry::Float => 4,
+        Entry::Long(_) => 5,
+        Entry::Double => 6,
+        Entry::Class(_) => 7,
+        Entry::String(_) => 8,
+        Entry::Field(_, _) => 9,
+        Entry::Method(_, _) => 10,
+        Entry::InterfaceMethod(_, _) => 11,
+        Entry::NameAndType(_, _) => 12,
+        Entry::MethodHandle => 15,
+        Entry::MethodType => 16,
+        Entry::InvokeDynamic => 18,
+    }
+}
+
+pub fn tag_at(slots: &[Option<PlacedEntry>], index: u16) -> Option<u8>
+    ensures { result ≡ checks.tag_at (slots_view slots.now) index }
+{
+    match entry_of(slots, index) {
+        Some(entry) => Some(tag_of(entry)),
+        None => None,
+    }
+}
+
+pub fn has_tag(slots: &[Option<PlacedEntry>], index: u16, tag: u8) -> bool
+    ensures { result ≡ checks.has_tag (slots_view slots.now) index tag }
+{
+    match tag_at(slots, index) {
+        Some(found) => found == tag,
+        None => false,
+    }
+}
+
+pub fn utf8_of<'a>(slots: &[Option<PlacedEntry<'a>>], index: u16) -> Option<&'a [u8]>
+    ensures { option_copied result ≡ checks.utf8_of (slots_view slots.now) index }
+{
+    match entry_of(slots, index) {
+        Some(Entry::Utf8(bytes)) => Some(bytes),
+        _ => None,
+    }
+}
+
+pub fn integer_of(slots: &[Option<PlacedEntry>], index: u16) -> Option<i32>
+    ensures { result ≡ checks.integer_of (slots_view slots.now) index }
+{
+    match entry_of(slots, index) {
+        Some(Entry::Integer(value)) => Some(value),
+        _ => None,
+    }
+}
+
+pub fn long_of(slots: &[Option<PlacedEntry>], index: u16) -> Option<i64>
+    ensures { result ≡ checks.long_of (slots_view slots.now) index }
+{
+    match entry_of(slots, index) {
+        Some(Entry::Long(value)) => Some(value),
+        _ => None,
+    }
+}
+
+pub fn class_of<'a>(slots: &[Option<PlacedEntry<'a>>], index: u16) -> Option<&'a [u8]>
+    ensures { option_copied result ≡ checks.class_of (slots_view slots.now) index }
+{
+    match entry_of(slots, index) {
+        Some(Entry::Class(name)) => utf8_of(slots, name),
+        _ => None,
+    }
+}
+
+pub fn string_of<'a>(slots: &[Option<PlacedEntry<'a>>], index: u16) -> Option<&'a [u8]>
+    ensures { option_copied result ≡ checks.string_of (slots_view slots.now) index }
+{
+    match entry_of(slots, index) {
+        Some(Entry::String(text)) => utf8_of(slots, text),
+        _ => None,
+    }
+}
+
+// The name and the descriptor of a NameAndType entry.
+fn names_of<'a>(slots: &[Option<PlacedEntry<'a>>], index: u16) -> Option<(&'a [u8], &'a [u8])>
+    ensures { names_view result ≡ option_and_then (checks.names_in (slots_view slots.now)) (checks.entry_of (slots_view slots.now) index) }
+{
+    match entry_of(slots, index) {
+        Some(Entry::NameAndType(name, descriptor)) => {
+            Some((utf8_of(slots, name)?, utf8_of(slots, descriptor)?))
+        }
+        _ => None,
+    }
+}
+
+// The member of a class that a NameAndType entry names, under the tag of its own entry.
+fn member_by<'a>(
+    slots: &[Option<PlacedEntry<'a>>],
+    tag: u8,
+    owner: u16,
+    named: u16,
+) -> Option<NamedMember<'a>>
+    ensures { member_view result ≡ option_map (λ m. (tag, m)) (checks.member_by (slots_view slots.now) owner named) }
+{
+    let owner = class_of(slots, owner)?;
+    let (name, descriptor) = names_of(slots, named)?;
+    Some((tag, owner, name, descriptor))
+}
+
+pub fn member_of<'a>(slots: &[Option<PlacedEntry<'a>>], index: u16) -> Option<NamedMember<'a>>
+    ensures { member_view result ≡ checks.tagged_member_of (slots_view slots.now) index }
+{
+    match entry_of(slots, index) {
+        Some(Entry::Field(owner, named)) => member_by(slots, 9, owner, named),
+        Some(Entry::Method(owner, named)) => member_by(slots, 10, owner, named),
+        Some(Entry::InterfaceMethod(owner, named)) => member_by(slots, 11, owner, named),
+        _ => None,
+    }
+}

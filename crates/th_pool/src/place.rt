@@ -1,0 +1,10 @@
+// A place in a file.
+ghost use Rattle.std.specs.Prelude.{◌+◌, ◌<◌, ◌^◌, length};
+
+/// An offset in a file of fewer than 2^32 bytes, and the bytes from there on.
+#[derive(Clone, Copy, Debug)]
+pub struct Place<'a> {
+    pub at: u32,
+    pub rest: &'a [u8],
+    ghost in_range: { at + length rest.now < 2 ^ 32 },
+}
