@@ -1,11 +1,11 @@
 -- Behind each tag stands what its row says.
-use Rattle.std.proofs.Common.{◌≡◌, ◌≢◌, ℕ, true, false, eqb, arith, ◌≤◌, ◌+◌, ◌*◌, ◌^◌, List, Result, Ok, Err, refl, ◌∙◌}
+use Rattle.std.proofs.Common.{◌≡◌, ◌≢◌, ℕ, true, false, eqb, arith, ◌≤◌, ◌+◌, ◌*◌, ◌^◌, List, Ok, Err, refl, ◌∙◌}
 use Rattle.std.specs.Int.{w32, w64, cast_signed}
 use Rattle.std.proofs.lemmas.Bool.{ne_eqb}
 use Rattle.std.proofs.lemmas.Bool.Decides.{nat_tests}
 use Rattle.th_syntax.specs.declared.refusal.Flaw.{Flaw}
 use Rattle.th_syntax.specs.Forms.{Form, whole, ◌>>=◌, Placed, Found, read}
-use Rattle.th_syntax.specs.ClassBytes.{Entry, utf8, integer, float, long, double, class, string, field, method, interface_method, name_and_type, method_handle, method_type, invoke_dynamic, u1, u2, u4, run, text, handle, two_indices, two_words, content, is_tag}
+use Rattle.th_syntax.specs.ClassBytes.{utf8, integer, float, long, double, class, string, field, method, interface_method, name_and_type, method_handle, method_type, invoke_dynamic, u2, u4, text, handle, two_indices, two_words, content, is_tag}
 use Rattle.th_syntax.specs.Reading.{read_after, read_stops, read_whole}
 
 -- one part, and the entry that it makes

@@ -1,8 +1,8 @@
 -- An entry, and what an index leads to, are read part by part.
-use Rattle.std.proofs.Common.{◌≡◌, ℕ, Bool, true, false, not, ◌&&◌, List, Result, Ok, Err, refl, ◌∙◌}
+use Rattle.std.proofs.Common.{◌≡◌, ℕ, Bool, true, false, not, ◌&&◌, List, Ok, Err, refl, ◌∙◌}
 use Rattle.std.specs.Prelude.{Option, Some, None, ◌==◌}
 use Rattle.th_syntax.specs.declared.refusal.Flaw.{Flaw}
-use Rattle.th_syntax.specs.Forms.{Form, whole, ◌>>=◌, Placed, Found, read}
+use Rattle.th_syntax.specs.Forms.{Form, whole, ◌>>=◌, Placed, read}
 use Rattle.th_syntax.specs.ClassBytes.{Entry, demand, u1, is_tag, is_wide, content, entry, slot}
 use Rattle.th_syntax.specs.Reading.{read_after, read_stops, read_whole, read_demand, read_refusal}
 

@@ -1,16 +1,13 @@
 -- How the descriptors of fields and methods are read as a whole.
-use Rattle.std.proofs.Common.{◌≡◌, ◌≢◌, ℕ, zero, suc, ◌+◌, ◌-◌, ◌<◌, ◌≤◌, Bool, true, false, cond, ◌&&◌, ◌||◌, List, [], ◌∷◌, ◌++◌, length, map, Result, Ok, Err, refl, sym, ap, ◌∙◌, append_assoc, arith}
-use Rattle.std.specs.Prelude.{Option, Some, None, ◌==◌, nat_le, sum_by}
+use Rattle.std.proofs.Common.{◌≡◌, ◌≢◌, ℕ, suc, ◌+◌, Bool, true, false, cond, ◌&&◌, ◌||◌, List, [], ◌∷◌, length, map, Ok, Err, refl, sym, ap, ◌∙◌, append_assoc}
+use Rattle.std.specs.Prelude.{Option, Some, None, ◌==◌, sum_by}
 use Rattle.std.specs.List.{list_any, list_all}
 use Rattle.std.specs.Option.{option_map, option_and_then}
 use Rattle.std.proofs.lemmas.Bool.{ne_eqb}
 use Rattle.std.proofs.lemmas.List.Sums.{sum_by-cons}
-use Rattle.th_syntax.specs.Descriptors.{FieldType, byte_type, char_type, double_type, float_type, int_type, long_type, short_type, boolean_type, class_type, array_type, MethodType, size_of, is_type, is_result, is_method_type, is_floating, is_floating_result, is_floating_method, only_if, alone, type_at, field_type_of, types_at, result_at, method_at, method_type_of}
+use Rattle.th_syntax.specs.Descriptors.{FieldType, double_type, long_type, class_type, array_type, MethodType, size_of, is_type, is_result, is_method_type, is_floating, is_floating_result, is_floating_method, only_if, alone, type_at, field_type_of, types_at, result_at, method_at, method_type_of}
 use Rattle.th_pool.specs.declared.descriptor.ParsedType.{ParsedType}
 use Rattle.th_pool.specs.declared.parse.Params.{Params}
-use Rattle.th_pool.specs.declared.shape.Slot.{Slot}
-use Rattle.th_pool.specs.declared.shape.MethodShape.{MethodShape}
-use Rattle.th_pool.specs.declared.shape.DescriptorFault.{DescriptorFault}
 use Rattle.th_pool.specs.declared.shape.DescriptorFault.TheVariants.{Form, FloatType}
 use Rattle.std.proofs.lemmas.List.{append-nil}
 use Rattle.th_pool.specs.Shapes.{slot_of, slot_size, field_shape, shape_of, method_shape}

@@ -7,8 +7,8 @@ use Rattle.std.specs.Option.{option_copied, option_flatten, option_map, option_m
 use Rattle.th_syntax.specs.declared.instr.MemberRef.{MemberRef}
 use Rattle.th_syntax.specs.declared.refusal.Flaw.{Flaw}
 use Rattle.th_syntax.specs.Forms.{Placed}
-use Rattle.th_syntax.specs.ClassBytes.{Entry, utf8, integer, float, long, double, class, string, field, method, interface_method, name_and_type, method_handle, method_type, invoke_dynamic, tag_of, Pool}
-use Rattle.th_syntax.specs.PoolChecks.{entry_of, tag_at, has_tag, utf8_in, utf8_of, class_in, class_of, string_in, string_of, names_in, member_by, member_in, member_of, tagged_member_of, refers_well, entry_flaw, entry_flaws}
+use Rattle.th_syntax.specs.ClassBytes.{Entry, utf8, class, string, field, method, interface_method, name_and_type, tag_of, Pool}
+use Rattle.th_syntax.specs.PoolChecks.{entry_of, has_tag, utf8_in, utf8_of, class_in, class_of, string_in, string_of, names_in, member_by, member_in, tagged_member_of, refers_well, entry_flaw, entry_flaws}
 use Rattle.th_pool.specs.PoolView.{member_view}
 
 -- a test that gives no flaw holds

@@ -1,14 +1,14 @@
 -- How types are read from the front of a descriptor.
-use Rattle.std.proofs.Common.{◌≡◌, ◌≢◌, ◌⊎◌, ℕ, zero, suc, ◌+◌, ◌<◌, ◌≤◌, Bool, true, false, cond, eqb, leb, ◌&&◌, List, [], ◌∷◌, ◌++◌, length, get_or, take, drop, refl, sym, ap, ◌∙◌, append_assoc, arith, inl, inr}
-use Rattle.std.specs.Prelude.{Option, Some, None, ◌==◌, nat_le, if◌then◌else◌}
+use Rattle.std.proofs.Common.{◌≡◌, ◌≢◌, ℕ, zero, suc, ◌+◌, ◌<◌, Bool, true, false, cond, ◌&&◌, List, [], ◌∷◌, ◌++◌, length, get_or, take, drop, refl, sym, ap, ◌∙◌, append_assoc, arith}
+use Rattle.std.specs.Prelude.{Option, Some, None, ◌==◌, nat_le}
 use Rattle.std.specs.Option.{option_map}
-use Rattle.std.proofs.lemmas.Bool.{ne_eqb, eq-eqb}
+use Rattle.std.proofs.lemmas.Bool.{ne_eqb}
 use Rattle.std.proofs.lemmas.List.{append-nil}
 use Rattle.std.proofs.Math.Seq.{drop-cons, take-suc}
 use Rattle.th_syntax.specs.WellFormed.{is_class_name}
-use Rattle.th_syntax.specs.Descriptors.{FieldType, byte_type, char_type, double_type, float_type, int_type, long_type, short_type, boolean_type, class_type, array_type, dimensions, is_named_well, is_type, is_floating, base_type, name_before, element_at, type_at}
+use Rattle.th_syntax.specs.Descriptors.{FieldType, class_type, array_type, dimensions, is_named_well, is_type, is_floating, base_type, name_before, element_at, type_at}
 use Rattle.th_pool.specs.declared.descriptor.ParsedType.{ParsedType}
-use Rattle.th_pool.specs.declared.shape.Slot.TheVariants.{Int, Long, Ref}
+use Rattle.th_pool.specs.declared.shape.Slot.TheVariants.{Ref}
 use Rattle.th_pool.specs.Shapes.{slot_of}
 use Rattle.th_pool.specs.Types.{type_seen, summed, arrayed, arrays, with_dimensions, front_of}
 

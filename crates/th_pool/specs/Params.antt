@@ -6,7 +6,6 @@ use Rattle.std.specs.Option.{option_map}
 use Rattle.th_syntax.specs.Descriptors.{FieldType, MethodType, is_type, is_floating}
 use Rattle.th_pool.specs.declared.descriptor.ParsedType.{ParsedType}
 use Rattle.th_pool.specs.declared.parse.Params.{Params}
-use Rattle.th_pool.specs.declared.shape.Slot.{Slot}
 use Rattle.th_pool.specs.declared.shape.MethodShape.{MethodShape}
 use Rattle.th_pool.specs.declared.shape.FieldShape.{FieldShape}
 use Rattle.th_pool.specs.declared.shape.DescriptorFault.{DescriptorFault}

@@ -1,5 +1,5 @@
 -- What contracts see of the entries that are kept.
-use Rattle.std.specs.Prelude.{ℕ, List, map, Option, Some, None}
+use Rattle.std.specs.Prelude.{ℕ, List, map, Option}
 use Rattle.std.specs.Option.{option_map}
 use Rattle.std.specs.Borrow.{Bor}
 use Rattle.th_syntax.specs.declared.instr.MemberRef.{MemberRef}

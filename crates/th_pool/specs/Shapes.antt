@@ -1,11 +1,9 @@
 -- The shapes of descriptors.
-use Rattle.std.specs.Prelude.{◌≡◌, ℕ, List, map, Option, Some, None, Result, Ok, Err, Bool, ◌||◌, ◌&&◌, ◌++◌, if◌then◌else◌}
-use Rattle.std.specs.List.{list_any, list_all}
-use Rattle.std.specs.Borrow.{Bor}
+use Rattle.std.specs.Prelude.{◌≡◌, ℕ, map, Option, Some, None, Result, Ok, Err, if◌then◌else◌}
 use Rattle.std.specs.Option.{option_map}
 use Rattle.th_base.specs.declared.fail.Fail.{Fail}
 use Rattle.th_base.specs.declared.fail.Fail.TheVariants.{Refused, NoMemory}
-use Rattle.th_syntax.specs.Descriptors.{FieldType, byte_type, char_type, double_type, float_type, int_type, long_type, short_type, boolean_type, class_type, array_type, MethodType, is_type, is_floating, is_floating_method}
+use Rattle.th_syntax.specs.Descriptors.{FieldType, double_type, long_type, class_type, array_type, MethodType, is_floating, is_floating_method}
 use Rattle.th_pool.specs.declared.shape.Slot.{Slot}
 use Rattle.th_pool.specs.declared.shape.Slot.TheVariants.{Int, Long, Ref}
 use Rattle.th_pool.specs.declared.shape.MethodShape.{MethodShape}

@@ -1,4 +1,4 @@
-use Rattle.std.proofs.Common.{◌≡◌, ◌∙◌, ℕ, suc, drop, sym, ap, refl, None, Some}
+use Rattle.std.proofs.Common.{◌∙◌, suc, drop, sym, refl, None}
 use Rattle.std.specs.List.{filter_map}
 use Rattle.std.proofs.Math.Seq.{drop-cons}
 use Rattle.th_syntax.specs.PoolChecks as checks

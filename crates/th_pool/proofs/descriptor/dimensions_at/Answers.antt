@@ -1,4 +1,4 @@
-use Rattle.std.proofs.Common.{◌≡◌, ◌∙◌, ℕ, List, length, drop, sym, ap, arith, add-one}
+use Rattle.std.proofs.Common.{◌≡◌, ◌∙◌, ℕ, length, drop, sym, ap, arith, add-one}
 use Rattle.std.proofs.Math.Seq.{drop-length}
 use Rattle.th_syntax.specs.Descriptors as types
 use Rattle.th_pool.specs.Types.{with_dimensions}

@@ -1,4 +1,4 @@
-use Rattle.std.proofs.Common.{◌≡◌, ◌∙◌, ℕ, List, drop, sym, ap}
+use Rattle.std.proofs.Common.{◌∙◌, ℕ, List, drop, sym, ap}
 use Rattle.std.specs.Option.{option_map}
 use Rattle.th_syntax.specs.Descriptors as types
 use Rattle.th_pool.specs.Types.{summed}

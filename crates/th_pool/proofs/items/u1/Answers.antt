@@ -1,6 +1,4 @@
-use Rattle.std.proofs.Common.{◌≡◌, ◌∙◌, sym, ap, refl, Ok, Result, List, ℕ}
-use Rattle.th_syntax.specs.declared.refusal.Flaw.{Flaw}
-use Rattle.th_syntax.specs.Forms.{Placed, Found}
+use Rattle.std.proofs.Common.{refl}
 use Rattle.th_pool.proofs.Numbers.{number_read, one_byte}
 use Rattle.th_pool.proofs.items.u1.Goals as goal
 

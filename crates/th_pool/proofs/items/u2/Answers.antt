@@ -1,6 +1,4 @@
-use Rattle.std.proofs.Common.{◌≡◌, ◌∙◌, sym, ap, refl, Ok, Result, List, ℕ}
-use Rattle.th_syntax.specs.declared.refusal.Flaw.{Flaw}
-use Rattle.th_syntax.specs.Forms.{Placed, Found}
+use Rattle.std.proofs.Common.{◌∙◌, sym, refl}
 use Rattle.th_pool.proofs.Numbers.{number_read, two_bytes}
 use Rattle.th_pool.proofs.items.u2.Goals as goal
 

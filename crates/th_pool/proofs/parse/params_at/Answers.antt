@@ -1,4 +1,4 @@
-use Rattle.std.proofs.Common.{◌≡◌, ◌∙◌, ℕ, suc, ◌+◌, ◌-◌, List, length, sym, ap, arith}
+use Rattle.std.proofs.Common.{◌≡◌, ◌∙◌, ℕ, suc, ◌+◌, ◌-◌, length, sym, ap, arith}
 use Rattle.th_syntax.specs.Descriptors as types
 use Rattle.th_pool.proofs.Methods.{with_params, params_end, params_missing, params_bad, params_on, params_none}
 use Rattle.th_pool.proofs.parse.params_at.Goals as goal

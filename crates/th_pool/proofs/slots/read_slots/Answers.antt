@@ -1,8 +1,7 @@
-use Rattle.std.proofs.Common.{◌≡◌, ◌∙◌, ℕ, suc, ◌+◌, ◌-◌, ◌++◌, [], ◌∷◌, arith, sym, ap, refl, Result, Ok, Err, Bool, false}
+use Rattle.std.proofs.Common.{◌≡◌, ◌∙◌, ℕ, suc, ◌-◌, arith, sym, ap}
 use Rattle.std.proofs.lemmas.List.{map-append}
 use Rattle.std.specs.Option.{option_map}
-use Rattle.th_syntax.specs.declared.refusal.Flaw.{Flaw}
-use Rattle.th_syntax.specs.Forms.{Found, read}
+use Rattle.th_syntax.specs.Forms.{read}
 use Rattle.th_syntax.specs.ClassBytes as file
 use Rattle.th_pool.specs.Gives.{with_front}
 use Rattle.th_pool.specs.PoolView.{placed_view, slots_view}
