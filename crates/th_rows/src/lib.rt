@@ -10,3 +10,5 @@ mod files;
 mod runs;
 #[cfg(test)]
 mod tests;
+#[cfg(test)]
+mod values;
