@@ -1,6 +1,11 @@
 pub mod Ancestors
+pub mod BuiltIn
+pub mod Handlers
 pub mod Hierarchy
 pub mod IdSet
+pub mod Launchable
 pub mod Lookup
 pub mod Order
 pub mod Subtype
+pub mod ValueKinds
+pub mod Worked

@@ -10,6 +10,8 @@ ghost use Rattle.th_base.specs.Hierarchy.{IsAcyclic, superclass_of, interfaces_o
 ghost use Rattle.th_base.specs.IdSet.{has, IsAscending, inserted, union_of, intersection_of};
 ghost use Rattle.th_base.specs.Subtype.{is_subtype, AreAboveAll};
 
+pub mod programs;
+
 /// Two sets with the same members are one list.
 pub fn members_make_the_set()
     ensures { (xs ys : List ℕ) → IsAscending xs → IsAscending ys → ((x : ℕ) → has xs x ≡ has ys x) → xs ≡ ys }

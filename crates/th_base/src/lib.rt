@@ -10,9 +10,11 @@
 #![tactic(auto)]
 
 mod ancestors;
+mod built_in;
 mod class;
 mod copy;
 mod fail;
+mod handler;
 mod hierarchy;
 mod id_set;
 pub mod laws;
@@ -27,9 +29,17 @@ mod seq;
 mod shape;
 mod text;
 
+pub use built_in::{
+    ACTIVITY, ACTIVITY_NUMBER, BUILT_IN_COUNT, BUNDLE, BUNDLE_NUMBER, CLONEABLE, CONSTRUCTOR,
+    OBJECT, SERIALIZABLE, STRING, STRING_NUMBER,
+};
 pub use class::{ClassInfo, FieldInfo, MethodInfo};
 pub use copy::{Same, TryCopy};
 pub use fail::Fail;
+pub use handler::{
+    HANDLERS, ON_CREATE, ON_DESTROY, ON_PAUSE, ON_RESTART, ON_RESUME, ON_SAVE_INSTANCE_STATE,
+    ON_START, ON_STOP, TAKES_BUNDLE, TAKES_NOTHING,
+};
 pub use hierarchy::Hierarchy;
 pub use id_set::IdSet;
 pub use lifecycle::Lifecycle;
