@@ -5,3 +5,4 @@ pub mod Worked
 mod Reading
 mod OneReading
 mod Spelled
+pub mod Visiting

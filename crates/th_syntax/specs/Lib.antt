@@ -4,6 +4,8 @@ pub mod BuiltIn
 pub mod Layout
 pub mod Refs
 pub mod Grammar
+pub mod Flow
+pub mod WorkedFlow
 pub mod Machine
 pub mod Handlers
 pub mod Program
