@@ -16,9 +16,9 @@ pub mod Run
 pub mod Joined
 pub mod Facts
 pub mod Worked
+pub mod Flaws
 pub mod Forms
 pub mod ClassBytes
-pub mod Reading
 pub mod WellFormed
 pub mod Descriptors
 pub mod PoolChecks
@@ -27,3 +27,4 @@ pub mod Decoding
 pub mod Checks
 pub mod ClassGrammar
 pub mod FirstFlaw
+pub mod Reader
