@@ -45,6 +45,9 @@ fn normal_form(f: Lin) -> NormalForm
         };
     }
     let g = positive_content(f.coefs.as_slice());
+    if g == 1 {
+        return NormalForm::Fact(f);
+    }
     match f.rel {
         Rel::Le => NormalForm::Fact(divided(f, g)),
         Rel::Eq => {

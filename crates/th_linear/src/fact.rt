@@ -2,7 +2,9 @@
 ghost use Rattle.std.specs.Prelude.{◌≡◌, ◌↔◌, ◌<◌, ◌≤◌, IfOk, IfSome, IsSome, IsTrue};
 ghost use Rattle.std.specs.Int.RustNames.{unsigned_abs};
 ghost use Rattle.th_linear.specs.Forms.{AreTerms, IsForm, Small, Stands, coef};
+ghost use Rattle.th_linear.specs.Gathered.{AreSmall, Gathers, Renames, gathered_form, renamed_form};
 
+use crate::gathering::{gather, rename};
 use std::alloc::{AllocError, Global};
 use std::marker::Model;
 
@@ -56,6 +58,27 @@ impl Lin {
         } else {
             None
         }
+    }
+
+    /// The fact of terms in any order: those of one variable are added up, and none with coefficient
+    /// 0 is left. `None` exactly where a magnitude of it reaches 2^62. Takes no memory.
+    pub fn from_terms(terms: Vec<(u32, i128)>, constant: i128, rel: Rel) -> Option<Lin>
+        requires { AreSmall terms.items }
+        ensures exact { Gathers terms.items constant rel result }
+        ensures value { result ≡ gathered_form terms.items constant rel }
+    {
+        Lin::new(gather(terms), constant, rel)
+    }
+
+    /// The fact with each variable named as the list says at its place; a variable past the list keeps
+    /// its own name. Variables that get one name become one. `None` exactly where a magnitude of the
+    /// result reaches 2^62.
+    pub fn renamed(&self, alloc: Global, names: &[u32]) -> Result<Option<Lin>, AllocError>
+        ensures exact { IfOk result (Renames names.now self.now) }
+        ensures value { IfOk result (λ o. o ≡ renamed_form names.now self.now) }
+    {
+        let terms = rename(alloc, self.coefs.as_slice(), names)?;
+        Ok(Lin::from_terms(terms, self.constant, self.rel))
     }
 
     /// The coefficient of a variable: 0 where the variable doesn't stand in the fact.

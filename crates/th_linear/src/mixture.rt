@@ -92,7 +92,7 @@ fn mix_terms(
     ensures { IfOk result (λ o. MatchOption o (HasLarge p left.now q right.now)
         (λ v. AreMixed p left.now q right.now v.items)) }
 {
-    let mut out = Vec::new(alloc);
+    let mut out = Vec::with_capacity(alloc, left.len() + right.len())?;
     let mut a = left;
     let mut b = right;
     while let Some(next) = next_step(p, a, q, b) {
