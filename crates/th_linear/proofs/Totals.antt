@@ -10,7 +10,7 @@ use Rattle.std.proofs.lemmas.Bool.Decides.{Decides-int_eq}
 use Rattle.std.proofs.lemmas.List.Sorted.{sum_by-IsPermutation}
 use Rattle.std.proofs.lemmas.List.Sums.{sum_by-cons}
 use Rattle.std.proofs.lemmas.List.Elements.{All-nil, All-cons}
-use Rattle.std.proofs.lemmas.List.{drop_more, drop_all, drop-drop, take_more, map-append}
+use Rattle.std.proofs.lemmas.List.{drop_more, drop_all, drop-drop, take_more, map-append, get_or_past}
 use Rattle.th_linear.specs.Forms.{Form, IsForm, AreTerms, Small, Holds, value, coef}
 use Rattle.th_linear.specs.Summed.{term_before, added, summed, is_small, all_small}
 use Rattle.th_linear.specs.Gathered.{AreSmall, total, gathered, gathered_form, IsGathered, IsTooLargeTotal, Gathers, Renames, name_of, renamed_terms, renamed_form}
@@ -215,7 +215,8 @@ pub same_names_stay : SameNamesStay
 same_names_stay names f h k =
     let itself : IsGathered f.coefs f.constant f.rel f =
     record { value = λ s. refl; coef = λ v. total_ascend v 0 f.coefs (terms_ascend 0 f.coefs h.terms); constant = refl; rel = refl } in
-    ap (λ (ts : List (ℕ × ℤ)). gathered_form ts f.constant f.rel) (same_names names f.coefs k) ∙ only_gathered f.coefs f.constant f.rel f h itself
+    let each : (v : ℕ) → name_of names v ≡ v = λ v. elim (cases_lt v (length names)) [ inl lt ↦ k v lt | inr past ↦ get_or_past names v v past ] in
+    ap (λ (ts : List (ℕ × ℤ)). gathered_form ts f.constant f.rel) (same_names names f.coefs each) ∙ only_gathered f.coefs f.constant f.rel f h itself
 
 -- ---- the loop that adds up terms whose variables don't descend
 

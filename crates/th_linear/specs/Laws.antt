@@ -1,5 +1,5 @@
 -- What the functions on facts keep: the statements of the laws.
-use Rattle.std.specs.Prelude.{◌≡◌, ◌↔◌, ◌≤ℤ◌, ◌*ℤ◌, ℕ, ℤ, pos, List, [], Some, None}
+use Rattle.std.specs.Prelude.{◌≡◌, ◌↔◌, ◌<◌, ◌≤ℤ◌, ◌*ℤ◌, ℕ, ℤ, pos, List, length, Some, None}
 use Rattle.std.specs.List.Sorted.{IsPermutation}
 use Rattle.th_linear.specs.Forms.{Form, IsForm, Holds, value, coef}
 use Rattle.th_linear.specs.Normal.{IsNormal, HoldsNormal, LeavesForm, scaled}
@@ -74,6 +74,6 @@ RenamingComposes = (names : List ℕ) (f r : Form) → IsFact f → renamed_form
     × ((s : ℕ → ℤ) → value r.coefs s ≡ value f.coefs (λ v. s (name_of names v)))
     × ((s : ℕ → ℤ) → Holds r s ↔ Holds f (λ v. s (name_of names v)))
 
--- a fact whose variables keep their names stays
+-- a fact stays where each variable of the list keeps its name
 abbrev pub SameNamesStay : Type 0
-SameNamesStay = (names : List ℕ) (f : Form) → IsFact f → ((v : ℕ) → name_of names v ≡ v) → renamed_form names f ≡ Some f
+SameNamesStay = (names : List ℕ) (f : Form) → IsFact f → ((v : ℕ) → v < length names → name_of names v ≡ v) → renamed_form names f ≡ Some f

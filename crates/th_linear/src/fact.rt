@@ -8,7 +8,10 @@ use crate::gathering::{gather, rename};
 use std::alloc::{AllocError, Global};
 use std::marker::Model;
 
-/// How a sum stands to 0: it is 0, at most 0, or not 0.
+/// All magnitudes of a fact are below this.
+pub const MAGNITUDE_LIMIT: u128 = 1 << 62;
+
+//// How a sum stands to 0: it is 0, at most 0, or not 0.
 #[derive(Clone, Copy, Debug, PartialEq, Eq)]
 pub enum Rel {
     /// The sum is 0.
@@ -111,7 +114,7 @@ impl Lin {
     }
 }
 
-/// Whether the variables ascend, no coefficient is 0, and all are below 2^62 in magnitude.
+// Whether the variables ascend, no coefficient is 0, and all are below 2^62 in magnitude.
 fn are_terms(terms: &[(u32, i128)]) -> bool
     ensures { IsTrue result ↔ AreTerms 0 terms.now }
 {
@@ -125,21 +128,21 @@ fn are_terms(terms: &[(u32, i128)]) -> bool
     true
 }
 
-/// Whether a term may stand next: its variable is `low` or more, its coefficient small and not 0.
+// Whether a term may stand next: its variable is `low` or more, its coefficient small and not 0.
 fn follows(low: u64, term: (u32, i128)) -> bool
     ensures { IsTrue result ↔ ((low ≤ term.0) × (0 < unsigned_abs term.1) × Small term.1) }
 {
     low <= u64::from(term.0) && term.1 != 0 && is_small(term.1)
 }
 
-/// Whether z is below 2^62 in magnitude.
+// Whether z is below 2^62 in magnitude.
 pub(crate) fn is_small(z: i128) -> bool
     ensures { IsTrue result ↔ Small z }
 {
-    z.unsigned_abs() < 1 << 62
+    z.unsigned_abs() < MAGNITUDE_LIMIT
 }
 
-/// The coefficient of a variable in a list of terms.
+// The coefficient of a variable in a list of terms.
 fn coefficient(terms: &[(u32, i128)], variable: u32) -> i128
     ensures { result ≡ coef variable terms.now }
 {
@@ -151,7 +154,7 @@ fn coefficient(terms: &[(u32, i128)], variable: u32) -> i128
     0
 }
 
-/// Whether the two lists of terms are equal.
+// Whether the two lists of terms are equal.
 fn same_terms(left: &[(u32, i128)], right: &[(u32, i128)]) -> bool
     ensures { IsTrue result ↔ (left.now ≡ right.now) }
 {
@@ -166,21 +169,21 @@ fn same_terms(left: &[(u32, i128)], right: &[(u32, i128)]) -> bool
     true
 }
 
-/// Whether the two terms are equal.
+// Whether the two terms are equal.
 fn same_term(left: (u32, i128), right: (u32, i128)) -> bool
     ensures { IsTrue result ↔ (left ≡ right) }
 {
     left.0 == right.0 && left.1 == right.1
 }
 
-/// Whether the two relations are equal.
+// Whether the two relations are equal.
 fn same_relation(left: Rel, right: Rel) -> bool
     ensures { IsTrue result ↔ (left ≡ right) }
 {
     left == right
 }
 
-/// Whether z stands in the relation to 0.
+// Whether z stands in the relation to 0.
 pub(crate) fn stands(rel: Rel, z: i128) -> bool
     ensures { IsTrue result ↔ Stands rel z }
 {

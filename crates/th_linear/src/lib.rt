@@ -22,5 +22,5 @@ mod tests;
 
 pub use division::{NormalForm, normal};
 pub use divisor::gcd;
-pub use fact::{Lin, Rel};
+pub use fact::{Lin, MAGNITUDE_LIMIT, Rel};
 pub use mixture::{combine, substitute};

@@ -9,7 +9,7 @@ use std::test::Fail;
 
 type Terms<'a> = &'a [(u32, i128)];
 
-/// What is expected of a fact that a step makes.
+// What is expected of a fact that a step makes.
 #[derive(Clone, Copy, Debug)]
 enum Want<'a> {
     True,
