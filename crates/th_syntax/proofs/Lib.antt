@@ -9,3 +9,4 @@ pub mod Referring
 pub mod Complete
 pub mod WholeReading
 mod Spelled
+mod WorkedFiles

@@ -26,3 +26,5 @@ pub mod Checks
 pub mod ClassGrammar
 pub mod FirstFlaw
 pub mod Reader
+pub mod WorkedCode
+pub mod WorkedFiles
