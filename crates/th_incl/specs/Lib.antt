@@ -1,0 +1,5 @@
+pub mod Least
+pub mod View
+pub mod Parts
+pub mod Run
+pub mod Kept
