@@ -1,11 +1,12 @@
 -- What is fresh goes through one inclusion, and through several.
-use Rattle.std.proofs.Common.{◌≡◌, ◌≢◌, ℕ, ◌<◌, true, List, [], ◌∷◌, ◌++◌, ◌||◌, ◌⊎◌, inl, inr, length, get_or, refl, sym, ap, ◌∙◌, subst, arith}
+use Rattle.std.proofs.Common.{◌≡◌, ◌≢◌, ℕ, ◌<◌, true, List, [], ◌∷◌, ◌++◌, ◌⊎◌, inl, inr, length, get_or, refl, sym, ap, ◌∙◌, subst, arith}
 use Rattle.std.specs.List.{Contains}
-use Rattle.std.proofs.lemmas.Bool.{cases_eq, both_ways, or_cases, or_left, or_right}
+use Rattle.std.proofs.lemmas.Bool.{cases_eq}
 use Rattle.std.proofs.lemmas.List.{get_or_default}
 use Rattle.std.proofs.lemmas.List.Elements.{Contains-append_left, Contains-push, Contains-push_cases}
 use Rattle.th_base.specs.IdSet.{has}
-use Rattle.th_base.proofs.Ascending.{has-append, has_first}
+use Rattle.th_base.proofs.Ascending.{has_first}
+use Rattle.th_base.proofs.Membership.{has_append_cases, has_append_left, has_append_right}
 use Rattle.th_incl.specs.Least.{set_at, In}
 use Rattle.th_incl.specs.Parts.{missing}
 use Rattle.th_incl.specs.Run.{Receives, Spreads}
@@ -25,34 +26,54 @@ pub some_member : (xs : List ℕ) → (xs ≡ [] → ⊥) → (y : ℕ) × (has 
 some_member [] h = absurd (h refl)
 some_member (x ∷ xs) h = (x, has_first x xs)
 
+-- ---- what a set received
+
+pub received_cases : (to : ℕ) (ids : List ℕ) (news news' : List (List ℕ)) (queue queue' : List ℕ) → Receives to ids news queue news' queue' → (k x : ℕ) → In news' k x
+    → In news k x ⊎ ((to ≡ k) × (has ids x ≡ true))
+received_cases to ids news news' queue queue' r k x e = elim (cases_eq k to) [
+  | inl same ↦ elim (has_append_cases ids (set_at news to) x (sym (r.here x) ∙ subst (λ n. In news' n x) same e)) [
+    | inl new ↦ inr (sym same, new)
+    | inr old ↦ inl (subst (λ n. In news n x) (sym same) old)
+  ]
+  | inr ne ↦ inl (sym (ap (λ l. has l x) (r.others k ne)) ∙ e)
+]
+
+pub received_stays : (to : ℕ) (ids : List ℕ) (news news' : List (List ℕ)) (queue queue' : List ℕ) → Receives to ids news queue news' queue' → (k x : ℕ) → In news k x → In news' k x
+received_stays to ids news news' queue queue' r k x e = elim (cases_eq k to) [
+  | inl same ↦ subst (λ n. In news' n x) (sym same) (r.here x ∙ has_append_right ids (set_at news to) x (subst (λ n. In news n x) same e))
+  | inr ne ↦ ap (λ l. has l x) (r.others k ne) ∙ e
+]
+
+pub received_has : (to : ℕ) (ids : List ℕ) (news news' : List (List ℕ)) (queue queue' : List ℕ) → Receives to ids news queue news' queue' → (x : ℕ) → has ids x ≡ true → In news' to x
+received_has to ids news news' queue queue' r x e = r.here x ∙ has_append_left ids (set_at news to) x e
+
+pub received_queued : (to : ℕ) (ids : List ℕ) (news news' : List (List ℕ)) (queue queue' : List ℕ) → Receives to ids news queue news' queue' → (k x : ℕ) → In news' k x
+    → ((y : ℕ) × In news k y) ⊎ (has queue' k ≡ true)
+received_queued to ids news news' queue queue' r k x e = elim (cases_eq k to) [
+  | inl same ↦ elim (r.queued x (subst (λ n. In news' n x) same e)) [
+    | inl o ↦ inl (o.0, subst (λ n. In news n o.0) (sym same) o.1)
+    | inr q ↦ inr (subst (λ n. has queue' n ≡ true) (sym same) q)
+  ]
+  | inr ne ↦ inl (x, sym (ap (λ l. has l x) (r.others k ne)) ∙ e)
+]
+
+-- ---- inclusions
+
 pub delivers : (sets filters : List (List ℕ)) (j : Inclusion) (fresh : List ℕ) (news news' : List (List ℕ)) (queue queue' : List ℕ) → j.to < length news
     → Receives j.to (missing fresh (set_at filters j.filter) (set_at sets j.to)) news queue news' queue' → Spreads sets filters (j ∷ []) fresh news queue news' queue'
 delivers sets filters j fresh news news' queue queue' inside r =
-    let passed : List ℕ = missing fresh (set_at filters j.filter) (set_at sets j.to) in
-    let both : (x : ℕ) → has (set_at news' j.to) x ≡ (has passed x || has (set_at news j.to) x) = λ x. r.here x ∙ has-append passed (set_at news j.to) x in
+    let ids : List ℕ = missing fresh (set_at filters j.filter) (set_at sets j.to) in
     record {
       news_len = r.news_len;
-      stays = λ k x e. elim (cases_eq k j.to) [
-        | inl same ↦ subst (λ n. In news' n x) (sym same) (both x ∙ or_right (has passed x) (has (set_at news j.to) x) (subst (λ n. In news n x) same e))
-        | inr ne ↦ ap (λ l. has l x) (r.others k ne) ∙ e
-      ];
-      only = λ k x e. elim (cases_eq k j.to) [
-        | inl same ↦ elim (or_cases (has passed x) (has (set_at news j.to) x) (sym (both x) ∙ subst (λ n. In news' n x) same e)) [
-          | inl p ↦ inr (j, (Contains-push [] j, sym same, subst (λ n. has (missing fresh (set_at filters j.filter) (set_at sets n)) x ≡ true) (sym same) p))
-          | inr o ↦ inl (subst (λ n. In news n x) (sym same) o)
-        ]
-        | inr ne ↦ inl (sym (ap (λ l. has l x) (r.others k ne)) ∙ e)
+      stays = received_stays j.to ids news news' queue queue' r;
+      only = λ k x e. elim (received_cases j.to ids news news' queue queue' r k x e) [
+        | inl old ↦ inl old
+        | inr new ↦ inr (j, (Contains-push [] j, new.0, subst (λ n. has (missing fresh (set_at filters j.filter) (set_at sets n)) x ≡ true) new.0 new.1))
       ];
       every = λ i x one p. subst (λ i. has (missing fresh (set_at filters i.filter) (set_at sets i.to)) x ≡ true → In news' i.to x) (only_one j i one)
-          (λ q. both x ∙ or_left (has passed x) (has (set_at news j.to) x) q) p;
+          (received_has j.to ids news news' queue queue' r x) p;
       queue_stays = r.queue_stays;
-      queued = λ k x e. elim (cases_eq k j.to) [
-        | inl same ↦ elim (r.queued x (subst (λ n. In news' n x) same e)) [
-          | inl o ↦ inl (o.0, subst (λ n. In news n o.0) (sym same) o.1)
-          | inr q ↦ inr (subst (λ n. has queue' n ≡ true) (sym same) q)
-        ]
-        | inr ne ↦ inl (x, sym (ap (λ l. has l x) (r.others k ne)) ∙ e)
-      ];
+      queued = received_queued j.to ids news news' queue queue' r;
       inside = λ k e. elim (r.inside k e) [ inl o ↦ inl o | inr s ↦ inr (subst (λ n. n < length news) s inside) ];
     }
 

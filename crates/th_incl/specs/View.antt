@@ -29,3 +29,10 @@ with_base v i x = record v { constraints = record v.constraints { base = v.const
 -- one inclusion more
 abbrev pub with_copy : SolverView → Inclusion → SolverView
 with_copy v j = record v { constraints = record v.constraints { copies = v.constraints.copies ++ j ∷ [] } }
+
+-- several base pairs more, and several inclusions
+abbrev pub with_bases : SolverView → List (ℕ × ℕ) → SolverView
+with_bases v pairs = record v { constraints = record v.constraints { base = v.constraints.base ++ pairs } }
+
+abbrev pub with_copies : SolverView → List Inclusion → SolverView
+with_copies v copies = record v { constraints = record v.constraints { copies = v.constraints.copies ++ copies } }

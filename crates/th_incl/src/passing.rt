@@ -40,7 +40,7 @@ fn pass_to(
 }
 
 // Passes fresh numbers through one inclusion, and queues its target where it had no news before.
-fn deliver(
+pub(crate) fn deliver(
     filters: &[Filter],
     inclusion: Inclusion,
     fresh: &[u32],
