@@ -83,3 +83,19 @@ impl<T: Same, U: Same> Same for (T, U) {
         self.0.same(&other.0) && self.1.same(&other.1)
     }
 }
+
+impl<T: TryCopy, U: TryCopy, V: TryCopy> TryCopy for (T, U, V) {
+    fn try_copy(&self, alloc: Global) -> Result<(T, U, V), AllocError> {
+        Ok((
+            self.0.try_copy(alloc)?,
+            self.1.try_copy(alloc)?,
+            self.2.try_copy(alloc)?,
+        ))
+    }
+}
+
+impl<T: Same, U: Same, V: Same> Same for (T, U, V) {
+    fn same(&self, other: &(T, U, V)) -> bool {
+        self.0.same(&other.0) && self.1.same(&other.1) && self.2.same(&other.2)
+    }
+}
