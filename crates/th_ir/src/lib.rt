@@ -12,6 +12,7 @@
 mod facts;
 mod field;
 mod graph;
+pub mod laws;
 mod plan;
 mod program;
 mod stmt;

@@ -1,0 +1,9 @@
+pub mod Allowed
+pub mod Apart
+pub mod Changes
+pub mod Covering
+pub mod Heaps
+pub mod Plain
+pub mod Ranges
+pub mod Runs
+pub mod Slots
