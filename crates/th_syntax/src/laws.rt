@@ -15,6 +15,7 @@ ghost use Rattle.th_syntax.specs.Facts.{IsOriginal, IsStoredInto, IsMade, EveryC
 ghost use Rattle.th_syntax.specs.Worked.{plain_program, storing_program, clearing_program, one_launched};
 
 pub mod class_files;
+pub mod flow;
 
 /// A field of the program holds 0, null or its ConstantValue, unless a `putstatic` of the program
 /// resolves to it.
