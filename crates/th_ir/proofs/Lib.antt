@@ -1,0 +1,14 @@
+pub mod Allowed
+pub mod Apart
+pub mod Changes
+pub mod Covering
+pub mod Heaps
+pub mod Nests
+pub mod New
+pub mod Plain
+pub mod Ranges
+pub mod Realised
+pub mod Runs
+pub mod Slots
+pub mod Touches
+pub mod WholeCalls
