@@ -30,12 +30,13 @@ decoded pool zero pc (b ∷ bytes) =
     record { at = pc; value = one.0 } ∷ decoded pool (one.1 - 1) (pc + 1) bytes
 decoded pool (suc inside) pc (b ∷ bytes) = decoded pool inside (pc + 1) bytes
 
+abbrev pub spelled_instr : ℕ → Spelled → Option (ℕ × Instr)
+spelled_instr pc (instr i) = Some (pc, i)
+spelled_instr pc (flawed number numbers) = None
+
+-- an instruction, with its offset in the code, where it is one
 abbrev pub instr_of : Placed Spelled → Option (ℕ × Instr)
-instr_of one = go one.value
-  where
-    go : Spelled → Option (ℕ × Instr)
-    go (instr i) = Some (one.at, i)
-    go (flawed number numbers) = None
+instr_of one = spelled_instr one.at one.value
 
 -- the instructions of a code array, each with its offset in the code
 unfoldable pub instrs_in : Pool → List ℕ → List (ℕ × Instr)
