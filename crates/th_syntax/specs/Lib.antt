@@ -30,3 +30,4 @@ pub mod FirstFlaw
 pub mod Reader
 pub mod WorkedCode
 pub mod WorkedFiles
+pub mod WorkedNames
