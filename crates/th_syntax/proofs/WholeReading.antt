@@ -1,8 +1,10 @@
 -- Reading whole bytes gives the class file that they stand for, or their first flaw.
-use Rattle.std.proofs.Common.{◌≡◌, ◌⊎◌, ℕ, zero, suc, ◌<◌, Bool, true, false, cond, eqb, List, [], ◌∷◌, ◌++◌, length, take, drop, Option, Some, None, Result, Ok, Err, refl, sym, ap, subst, ◌∙◌, arith, inl, inr}
+use Rattle.std.proofs.Common.{◌≡◌, ◌⊎◌, ℕ, zero, suc, ◌<◌, ◌&&◌, Bool, true, false, cond, eqb, ltb, List, [], ◌∷◌, ◌++◌, length, take, drop, Option, Some, None, Result, Ok, Err, refl, sym, ap, subst, ◌∙◌, arith, inl, inr}
 use Rattle.std.specs.Prelude.{IsTrue, ◌↔◌}
+use Rattle.std.specs.List.{All, AllByRecursion, list_all}
 use Rattle.std.specs.Str.{bytes_eq}
-use Rattle.std.proofs.lemmas.Bool.{eqb-true}
+use Rattle.std.proofs.lemmas.Bool.{eqb-true, ltb-true}
+use Rattle.std.proofs.lemmas.List.Elements.{All-from_recursion}
 use Rattle.std.proofs.lemmas.List.{take-append-drop, nil_from_length}
 use Rattle.std.proofs.lemmas.Slice.Eq.{bytes_eq-Decides}
 use Rattle.th_syntax.specs.declared.class_file.ClassFile.{ClassFile}
@@ -18,6 +20,10 @@ use Rattle.th_syntax.specs.Reader.{unless_flawed, valued, checked_class, behind_
 use Rattle.th_syntax.proofs.Reading.{stands_read, read_stands, flawed_read, read_flawed}
 use Rattle.th_syntax.proofs.FirstFlaws.{first_none, first_some, first_is}
 use Rattle.th_syntax.proofs.Complete.{complete}
+
+both : (a b : Bool) → (a && b) ≡ true → (a ≡ true) × (b ≡ true)
+both true b e = (refl, e)
+both false b e = absurd cc
 
 -- ---- answers
 
@@ -200,3 +206,10 @@ either bytes are = go (reading bytes) refl
     go : (r : Answer) → reading bytes ≡ r → ((v : ClassFile) × IsClassFile bytes v) ⊎ ((flaw : Flaw) × FirstFlaw bytes flaw)
     go (Ok v) is = inl (v, read_value bytes v are is)
     go (Err flaw) is = inr (flaw, read_flaw bytes flaw is)
+
+pub all_bytes : (bytes : List ℕ) (v : ClassFile) → IsClassFile bytes v → All (λ b. b < 256) bytes
+all_bytes bytes v f = All-from_recursion (λ b. b < 256) bytes (go bytes f.bytes_are)
+  where
+    go : (bs : List ℕ) → list_all (λ b. ltb b 256) bs ≡ true → AllByRecursion (λ b. b < 256) bs
+    go [] e = tt
+    go (b ∷ bs) e = let two = both (ltb b 256) (list_all (λ c. ltb c 256) bs) e in (ltb-true b 256 two.0, go bs two.1)

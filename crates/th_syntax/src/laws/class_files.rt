@@ -1,5 +1,6 @@
 // What the definitions of class files keep: functions that take nothing and do nothing, whose contracts hold.
-ghost use Rattle.std.specs.Prelude.{◌≡◌, ◌↔◌, ◌⊎◌, ℕ, List, [], ◌∷◌, Some, Result, Ok, Err, IsTrue};
+ghost use Rattle.std.specs.Prelude.{◌≡◌, ◌↔◌, ◌⊎◌, ◌<◌, ℕ, List, [], ◌∷◌, Some, Result, Ok, Err, IsTrue};
+ghost use Rattle.std.specs.List.{All};
 ghost use Rattle.th_syntax.specs.declared.class_file.ClassFile.{ClassFile};
 ghost use Rattle.th_syntax.specs.declared.instr.Instr.{Instr};
 ghost use Rattle.th_syntax.specs.declared.refusal.Flaw.{Flaw};
@@ -24,6 +25,11 @@ pub fn one_reading()
 /// Bytes stand for at most one class file.
 pub fn one_value()
     ensures { (bytes : List ℕ) (v w : ClassFile) → IsClassFile bytes v → IsClassFile bytes w → v ≡ w }
+{}
+
+/// Each entry of a class file is a byte.
+pub fn entries_are_bytes()
+    ensures { (bytes : List ℕ) (v : ClassFile) → IsClassFile bytes v → All (λ b. b < 256) bytes }
 {}
 
 /// Bytes have at most one first flaw.
