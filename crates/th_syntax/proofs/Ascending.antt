@@ -243,7 +243,7 @@ flow_within : (instrs : List (ℕ × Instr)) (start low high : ℕ) (rest : List
 flow_within instrs start low high [] row = none_within low high
 flow_within instrs start low high (one ∷ more) row =
     both_within low row.0 high _ (flow_flaws_from instrs start more) row.1 (row_end (SpelledAt start offset_of) row.0 high more row.3)
-    (unless_within low row.0 (flows_well instrs (eqb (length more) 0) one.1) (flaw_at cause.CODE_SHAPE (start + one.0)) row.2.0 row.2.1)
+    (unless_within low row.0 (flows_well instrs more one.1) (flaw_at cause.CODE_SHAPE (start + one.0)) row.2.0 row.2.1)
     (flow_within instrs start row.0 high more row.3)
 
 either_within : (low high : ℕ) (flaws flow : List Flaw) → Within low high flaws → Within low high flow → Within low high (or_else flaws flow)

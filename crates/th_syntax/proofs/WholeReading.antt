@@ -17,13 +17,10 @@ use Rattle.th_syntax.specs.Checks.{second_pass, third_pass, fourth_pass}
 use Rattle.th_syntax.specs.ClassGrammar.{are_bytes, class_file_of, IsWhole, IsClassFile}
 use Rattle.th_syntax.specs.FirstFlaw.{FirstFlaw, no_magic, items, trailing, indices, names, content}
 use Rattle.th_syntax.specs.Reader.{unless_flawed, valued, checked_class, behind_items, reading}
+use Rattle.th_syntax.proofs.Inverting.{both}
 use Rattle.th_syntax.proofs.Reading.{stands_read, read_stands, flawed_read, read_flawed}
 use Rattle.th_syntax.proofs.FirstFlaws.{first_none, first_some, first_is}
 use Rattle.th_syntax.proofs.Complete.{complete}
-
-both : (a b : Bool) → (a && b) ≡ true → (a ≡ true) × (b ≡ true)
-both true b e = (refl, e)
-both false b e = absurd cc
 
 -- ---- answers
 

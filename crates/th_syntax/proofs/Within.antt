@@ -5,6 +5,7 @@ use Rattle.th_syntax.specs.declared.refusal.Flaw.{Flaw}
 use Rattle.th_syntax.specs.Flaws.{NotBehind, Ascend, unless}
 use Rattle.th_syntax.specs.Forms.{Form, ◌>>=◌, whole, Placed, Found, read}
 use Rattle.th_syntax.specs.ClassBytes.{u2, times, counted}
+use Rattle.th_syntax.proofs.Inverting.{all_append}
 use Rattle.th_syntax.proofs.ReadingParts.{read_split, whole_found, number_place}
 
 -- ---- flaws
@@ -36,10 +37,6 @@ all_below high higher (f ∷ flaws) le all = ((let h : f.offset < high = all.0 i
 pub wider : (lower low high higher : ℕ) (flaws : List Flaw) → lower ≤ low → high ≤ higher → Within low high flaws → Within lower higher flaws
 wider lower low high higher flaws le less w = record { order = w.order; from = all_from low lower flaws le w.from; below = all_below high higher flaws less w.below }
 
-all_both : (P : Flaw → Type 0) (xs ys : List Flaw) → AllByRecursion P xs → AllByRecursion P ys → AllByRecursion P (xs ++ ys)
-all_both P [] ys all too = too
-all_both P (x ∷ xs) ys all too = (all.0, all_both P xs ys all.1 too)
-
 -- a flaw below an offset isn't behind the flaws from it on
 before_all : (middle : ℕ) (f : Flaw) (ys : List Flaw) → f.offset < middle → AllByRecursion (λ g. middle ≤ g.offset) ys → AllByRecursion (NotBehind f) ys
 before_all middle f [] lower all = tt
@@ -48,13 +45,13 @@ before_all middle f (g ∷ ys) lower all = (inl (let h : middle ≤ g.offset = a
 ascend_both : (middle : ℕ) (xs ys : List Flaw) → Ascend xs → Ascend ys → AllByRecursion (λ f. f.offset < middle) xs → AllByRecursion (λ f. middle ≤ f.offset) ys → Ascend (xs ++ ys)
 ascend_both middle [] ys up too below from = too
 ascend_both middle (x ∷ xs) ys up too below from =
-    (all_both (NotBehind x) xs ys up.0 (before_all middle x ys below.0 from), ascend_both middle xs ys up.1 too below.1 from)
+    (all_append (NotBehind x) xs ys up.0 (before_all middle x ys below.0 from), ascend_both middle xs ys up.1 too below.1 from)
 
 pub both_within : (low middle high : ℕ) (xs ys : List Flaw) → low ≤ middle → middle ≤ high → Within low middle xs → Within middle high ys → Within low high (xs ++ ys)
 both_within low middle high xs ys le less v w = record {
   order = ascend_both middle xs ys v.order w.order v.below w.from;
-  from = all_both (λ f. low ≤ f.offset) xs ys v.from (all_from middle low ys le w.from);
-  below = all_both (λ f. f.offset < high) xs ys (all_below middle high xs less v.below) w.below;
+  from = all_append (λ f. low ≤ f.offset) xs ys v.from (all_from middle low ys le w.from);
+  below = all_append (λ f. f.offset < high) xs ys (all_below middle high xs less v.below) w.below;
 }
 
 -- ---- values in a row
