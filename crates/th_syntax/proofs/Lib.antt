@@ -1,6 +1,5 @@
 pub mod Inverting
 pub mod Origins
-pub mod Standing
 pub mod Worked
 pub mod ReadingParts
 mod Reading
@@ -11,3 +10,6 @@ pub mod WholeReading
 mod Spelled
 pub mod Visiting
 mod WorkedFiles
+pub mod Allowing
+pub mod Changing
+pub mod Acting
