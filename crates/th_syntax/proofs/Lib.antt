@@ -1,6 +1,5 @@
 pub mod Inverting
 pub mod Origins
-pub mod Standing
 pub mod Worked
 pub mod Reading
 pub mod ReadingParts
@@ -15,3 +14,6 @@ pub mod Ascending
 mod Spelled
 pub mod Visiting
 mod WorkedFiles
+pub mod Allowing
+pub mod Changing
+pub mod Acting

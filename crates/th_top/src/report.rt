@@ -5,7 +5,6 @@ ghost use Rattle.std.specs.List.{list_any};
 ghost use Rattle.std.specs.HashSet.{contains};
 ghost use Rattle.th_syntax.specs.declared.instr.MemberRef.{MemberRef};
 ghost use Rattle.th_syntax.specs.Refs.{is_same_ref};
-ghost use Rattle.th_syntax.specs.Harness as harness;
 ghost use Rattle.th_top.specs.Report as report;
 
 use crate::members::ref_to;
@@ -17,7 +16,7 @@ use th_syntax::{
 };
 
 fn is_launch_constructor(method: &Member) -> bool
-    ensures { result ≡ harness.is_launch_constructor method.now }
+    ensures { result ≡ report.is_launch_constructor method.now }
 {
     method.name.as_bytes() == b"<init>".as_slice()
         && method.descriptor.as_bytes() == b"()V".as_slice()
@@ -26,13 +25,13 @@ fn is_launch_constructor(method: &Member) -> bool
 }
 
 fn has_launch_constructor(methods: &[Member]) -> bool
-    ensures { result ≡ list_any harness.is_launch_constructor methods.now }
+    ensures { result ≡ list_any report.is_launch_constructor methods.now }
 {
     methods.iter().any(|method| is_launch_constructor(method))
 }
 
 fn is_launched(class: &ClassFile) -> bool
-    ensures { result ≡ harness.can_be_made class.now }
+    ensures { result ≡ report.can_be_made class.now }
 {
     !has_flag(class.access, ACC_ABSTRACT)
         && !has_flag(class.access, ACC_INTERFACE)
