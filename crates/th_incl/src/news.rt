@@ -5,6 +5,7 @@ ghost use Rattle.th_incl.specs.Parts.{SameMembers};
 
 use std::alloc::{AllocError, Global};
 use std::marker::Model;
+use th_base::IdSet;
 
 // Numbers that are to go into a set, in any order and maybe more than once. Contracts see them as a
 // list.
@@ -39,22 +40,30 @@ impl News {
         }
     }
 
-    pub(crate) fn len(&self) -> usize
-        ensures { result ≡ length self.now }
-    {
-        self.ids.len()
-    }
-
     pub(crate) fn is_empty(&self) -> bool
         ensures { IsTrue result ↔ (self.now ≡ []) }
     {
         self.ids.is_empty()
     }
 
-    pub(crate) fn ids(&self) -> &[u32]
-        ensures { result.now ≡ self.now }
+    // The numbers of a set. Takes no memory.
+    pub(crate) fn from_set(set: IdSet) -> News
+        ensures { result ≡ set }
     {
-        self.ids.as_slice()
+        News {
+            ids: set.into_vec(),
+            is_ascending: true,
+        }
+    }
+
+    // The numbers as a set. Takes no memory.
+    pub(crate) fn into_set(mut self) -> IdSet
+        ensures members { SameMembers self result }
+        ensures ascending { IsAscending result }
+    {
+        self.sort();
+        let News { ids, .. } = self;
+        IdSet::from_ascending(ids)
     }
 
     // Adds a number.
@@ -69,7 +78,7 @@ impl News {
     }
 
     // Puts the numbers in order, each once.
-    pub(crate) fn sort(&mut self)
+    fn sort(&mut self)
         ensures members { SameMembers self.old self.new }
         ensures ascending { IsAscending self.new }
     {
