@@ -10,3 +10,4 @@ pub mod Complete
 pub mod WholeReading
 mod Spelled
 pub mod Visiting
+mod WorkedFiles

@@ -28,3 +28,5 @@ pub mod Checks
 pub mod ClassGrammar
 pub mod FirstFlaw
 pub mod Reader
+pub mod WorkedCode
+pub mod WorkedFiles
