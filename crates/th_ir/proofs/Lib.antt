@@ -3,6 +3,7 @@ pub mod Apart
 pub mod Changes
 pub mod Covering
 pub mod Heaps
+pub mod Listings
 pub mod Nests
 pub mod New
 pub mod Plain

@@ -17,6 +17,8 @@ ghost use Rattle.th_ir.specs.Summaries.{HoldsSums, ModSets};
 ghost use Rattle.th_ir.specs.Unchanged.{IsPassed, IsUnchanged, IsWithinCall, last_of};
 ghost use Rattle.th_ir.specs.WellFormed.{IsWellFormed};
 
+pub mod listings;
+
 /// Every reachable state keeps the invariant.
 pub fn good()
     ensures { (h : List ClassInfo) (p : RegProgram) (t : FactSets) (s : RegState) → IsWellFormed h p → HoldsRules h p t → RegReachable h p s → IsGood h p t s }
