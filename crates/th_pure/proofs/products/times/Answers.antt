@@ -2,7 +2,7 @@ use Rattle.std.proofs.Common.{◌<◌, ◌/◌, ◌^◌, arith}
 use Rattle.std.proofs.lemmas.Int.{ints}
 use native.Mathlib.Nat.{pos_of_dvd_of_pos}
 use Rattle.th_pure.proofs.Parts.{factor_positive, factor_small}
-use Rattle.th_pure.proofs.elimination.times.Goals as goal
+use Rattle.th_pure.proofs.products.times.Goals as goal
 
 pub nonzero_div-result : goal.nonzero_div-result
 nonzero_div-result c = pos_of_dvd_of_pos c.requires.divides c.requires.some
