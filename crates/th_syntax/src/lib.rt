@@ -5,8 +5,9 @@
 //! follow each other in its bytes.
 //!
 //! The definitions that the layers above cite stand in `specs/`: `ClassGrammar` relates bytes to the
-//! class file that they stand for, and `FirstFlaw` other bytes to the reason why they are refused;
-//! docs/CLASS-FILES.md lists the checks. `Layout`, `Grammar` and `Names` have the part of class files
+//! class file that they stand for, `FirstFlaw` other bytes to the reason why they are refused, and
+//! `Reader` is both as one function; docs/CLASS-FILES.md lists the checks. `cause`, `tag`, `opcode` and
+//! `limit` name the numbers that they cite. `Layout`, `Grammar` and `Names` have the part of class files
 //! that the first path takes. `Machine` has the states of the machine
 //! that runs a program, `Step` its steps, `Harness` the events that start code, `Run` its runs and
 //! `Joined` what a static field leads to; `laws` has what every run keeps. docs/MACHINE.md tells the
