@@ -12,17 +12,19 @@ use Rattle.th_base.specs.declared.class.MethodInfo.{MethodInfo}
 use Rattle.th_base.specs.Hierarchy.{superclass_of, declared_method}
 use Rattle.th_syntax.specs.declared.class_file.ClassFile.{ClassFile}
 use Rattle.th_syntax.specs.declared.class_file.Code.{Code}
+use Rattle.th_syntax.specs.declared.event.Event.{Event}
+use Rattle.th_syntax.specs.declared.event.Event.TheVariants.{Launch, Handler}
 use Rattle.th_syntax.specs.declared.instr.Instr.{Instr}
 use Rattle.th_syntax.specs.Flow.{leads_to, instr_in, offset_after, successors_of}
 use Rattle.th_syntax.specs.Machine.{Address, Slot, Holds, Array, Mark, Untouched, InProgress, Done, InitStage, OpenSuperclass, CallInitialiser, EndInit, LaunchStage, OpenClass, MakeObject, EndLaunch, Frame, CodeFrame, InitFrame, LaunchFrame, Launched, State, class_id, method_id, with_frames, ended_state}
 use Rattle.th_syntax.specs.Slots.{locals_with}
-use Rattle.th_base.specs.Handlers.{Handler, handlers, stage_after}
+use Rattle.th_base.specs.Handlers.{Handler as HandlerMethod, handlers, stage_after}
 use Rattle.th_syntax.specs.Program.{is_launchable, hierarchy_of, code_of, instr_at, next_offset}
 use Rattle.th_syntax.specs.Initial.{new_object, default_value}
 use Rattle.th_syntax.specs.Effects.{Top, Effect, after, goes_on as goes_behind, returned, opened, opened_where, frame_of}
 use Rattle.th_syntax.specs.Arrays.{array_descriptor}
 use Rattle.th_syntax.specs.Step.{effect, frame_named, step_init, step_launch, step_frames}
-use Rattle.th_syntax.specs.Harness.{Event, Launch, Handle, is_idle, bundle_argument, handler_begun, handled, handled_by, handler_method, happened}
+use Rattle.th_syntax.specs.Harness.{is_idle, place_of, handled_at, bundle_argument, handler_begun, handled, handled_by, handler_method, happened}
 use Rattle.th_syntax.specs.Run.{Follows}
 use Rattle.th_syntax.specs.Changes.{FallsThrough, IsAllowed, stuck, ends, goes_on, jumps, sets_static, sets_object, makes_instance, makes_array, opens, calls, returns, top_at, IsEdge, IsChange, ends_run, moves, sets_a_static, sets_an_object, makes_an_instance, makes_an_array, opens_class, calls_method, returns_to, returns_off, finds_superclass, opens_superclass, calls_initialiser, calls_none, initialised_class, finds_class, opens_launched, makes_launched, launches_object, begins_launch, begins_handler}
 use Rattle.th_syntax.proofs.Inverting.{and_then_some, map_some, some_is}
@@ -197,11 +199,11 @@ module _ (lifecycle : Lifecycle) (files : List ClassFile) where
   idle_is [] e = refl
   idle_is (f ∷ fs) e = absurd cc
 
-  launch_event : (s w : State) (c : ℕ) (launchable : Bool) → s.frames ≡ [] → is_launchable files c ≡ launchable → (if launchable then Some (with_frames s (LaunchFrame (class_id c) OpenClass ∷ [])) else None) ≡ Some w → IsChange lifecycle files s w
-  launch_event s w c true idle is e = change_is s (with_frames s (LaunchFrame (class_id c) OpenClass ∷ [])) w (begins_launch c idle is) e
+  launch_event : (s w : State) (c : ClassId) (launchable : Bool) → s.frames ≡ [] → is_launchable files c.0 ≡ launchable → (if launchable then Some (with_frames s (LaunchFrame c OpenClass ∷ [])) else None) ≡ Some w → IsChange lifecycle files s w
+  launch_event s w c true idle is e = change_is s (with_frames s (LaunchFrame c OpenClass ∷ [])) w (begins_launch c idle is) e
   launch_event s w c false idle is e = absurd cc
 
-  handler_event : (s : State) (place number stage : ℕ) (l : Launched) (h : Handler) (fresh : Bool) (frame : Option Frame) → s.frames ≡ [] → slice_get s.launched place ≡ Some l → slice_get handlers number ≡ Some h
+  handler_event : (s : State) (place number stage : ℕ) (l : Launched) (h : HandlerMethod) (fresh : Bool) (frame : Option Frame) → s.frames ≡ [] → slice_get s.launched place ≡ Some l → slice_get handlers number ≡ Some h
       → stage_after lifecycle h l.stage ≡ Some stage
       → option_and_then (λ m. frame_of files m (Holds (Address l.object) ∷ bundle_argument h fresh (length s.heap))) (handler_method files s.heap l.object h) ≡ frame
       → IsChange lifecycle files s (option_map_or (handler_begun files s place l h fresh stage) frame (ended_state s))
@@ -213,12 +215,13 @@ module _ (lifecycle : Lifecycle) (files : List ClassFile) where
       subst (λ (f : Frame). IsChange lifecycle files s (handler_begun files s place l h fresh stage f)) code.2 (begins_handler place number stage m.0 l h fresh code.0 idle at listed allows m.1 code.1)
 
   happening : (s w : State) (e : Event) → s.frames ≡ [] → happened lifecycle files s e ≡ Some w → IsChange lifecycle files s w
-  happening s w (Launch c) idle e = launch_event s w c (is_launchable files c) idle refl e
-  happening s w (Handle place number fresh) idle e =
-      let l = and_then_some (λ (l : Launched). option_and_then (handled_by lifecycle files s place fresh l) (slice_get handlers number)) (slice_get s.launched place) w e in
-      let h = and_then_some (handled_by lifecycle files s place fresh l.0) (slice_get handlers number) w l.2 in
-      let stage = map_some (handled files s place l.0 h.0 fresh) (stage_after lifecycle h.0 l.0.stage) w h.2 in
-      subst (IsChange lifecycle files s) stage.2 (handler_event s place number stage.0 l.0 h.0 fresh _ idle l.1 h.1 stage.1 refl)
+  happening s w (Launch c) idle e = launch_event s w c (is_launchable files c.0) idle refl e
+  happening s w (Handler object number fresh) idle e =
+      let place = and_then_some (handled_at lifecycle files s number fresh) (place_of object) w e in
+      let l = and_then_some (λ (l : Launched). option_and_then (handled_by lifecycle files s place.0 fresh l) (slice_get handlers number)) (slice_get s.launched place.0) w place.2 in
+      let h = and_then_some (handled_by lifecycle files s place.0 fresh l.0) (slice_get handlers number) w l.2 in
+      let stage = map_some (handled files s place.0 l.0 h.0 fresh) (stage_after lifecycle h.0 l.0.stage) w h.2 in
+      subst (IsChange lifecycle files s) stage.2 (handler_event s place.0 number stage.0 l.0 h.0 fresh _ idle l.1 h.1 stage.1 refl)
 
   event_is : (s w : State) (e : Event) (ended idle : Bool) → is_idle s.frames ≡ idle → (if not ended && idle then happened lifecycle files s e else None) ≡ Some w → IsChange lifecycle files s w
   event_is s w e true idle is h = absurd cc

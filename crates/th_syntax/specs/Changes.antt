@@ -182,7 +182,7 @@ pub data IsChange (lifecycle : Lifecycle) (files : List ClassFile) (s : State) :
   launches_object : (c : ClassId) (object : ℕ) (below : List Frame) → s.frames ≡ LaunchFrame c (EndLaunch object) ∷ below
       → IsChange lifecycle files s (record s { launched = s.launched ++ record { object = object; stage = 0 } ∷ []; frames = below })
   -- the harness begins a launch
-  begins_launch : (c : ℕ) → s.frames ≡ [] → is_launchable files c ≡ true → IsChange lifecycle files s (with_frames s (LaunchFrame (class_id c) OpenClass ∷ []))
+  begins_launch : (c : ClassId) → s.frames ≡ [] → is_launchable files c.0 ≡ true → IsChange lifecycle files s (with_frames s (LaunchFrame c OpenClass ∷ []))
   -- the harness calls a handler, which sets the stage of the launched object
   begins_handler : (place number stage method : ℕ) (l : Launched) (h : Handler) (fresh : Bool) (code : Code) → s.frames ≡ []
       → slice_get s.launched place ≡ Some l → slice_get handlers number ≡ Some h → stage_after lifecycle h l.stage ≡ Some stage

@@ -2,6 +2,7 @@
 use Rattle.std.specs.Prelude.{ℕ, suc, ◌+◌, ◌&&◌, nat_lt, Bool, List, length, sum_by}
 use Rattle.std.specs.Option.{option_map_or}
 use Rattle.th_syntax.specs.declared.class_file.ClassFile.{ClassFile}
+use Rattle.th_syntax.specs.declared.machine.TheConstants.{MOST_VALUES_HELD}
 use Rattle.th_syntax.specs.Machine.{Object, Frame, CodeFrame, InitFrame, LaunchFrame, State, parts_of}
 use Rattle.th_syntax.specs.Program.{code_of}
 
@@ -19,11 +20,11 @@ frame_size files (LaunchFrame class stage) = 0
 abbrev pub values_held : List ClassFile → State → ℕ
 values_held files s = sum_by object_size s.heap + sum_by (frame_size files) s.frames
 
--- the most values that a step or event may lead to
-abbrev pub most_values : ℕ
-most_values = 16777216
+-- so many values, where there were so many before, are too many: they are past the limit, and more
+abbrev pub is_past_limit : ℕ → ℕ → Bool
+is_past_limit before now = nat_lt MOST_VALUES_HELD now && nat_lt before now
 
--- a step or event from s to t finds no room: the values held are then past the limit, and more than
--- before. A state that is past it from the start goes on as long as nothing is made.
+-- a step or event from s to t finds no room. A state that is past the limit from the start goes on as
+-- long as nothing is made.
 abbrev pub is_full : List ClassFile → State → State → Bool
-is_full files s t = nat_lt most_values (values_held files t) && nat_lt (values_held files s) (values_held files t)
+is_full files s t = is_past_limit (values_held files s) (values_held files t)

@@ -15,7 +15,7 @@ use Rattle.th_syntax.specs.declared.instr.Primitive.TheVariants as primitive
 use Rattle.th_syntax.specs.declared.instr.MemberRef.{MemberRef}
 use Rattle.th_syntax.specs.declared.instr.Instr.{Instr}
 use Rattle.th_syntax.specs.declared.instr.Instr.TheVariants.{Nop, Null, Int, Long, Str, ILoad, LLoad, ALoad, IStore, LStore, AStore, ArrayLoad, LArrayLoad, ArrayStore, LArrayStore, Stack, Arith, LArith, Neg, LNeg, Inc, Narrow, I2L, L2I, LCmp, IfZero, IfInts, IfSame, IfOther, IfNull, IfNotNull, Goto, TableSwitch, LookupSwitch, IReturn, LReturn, AReturn, Return, GetStatic, PutStatic, GetField, PutField, InvokeVirtual, InvokeSpecial, InvokeInterface, InvokeStatic, New, NewArray, ANewArray, ArrayLength, Throw, CheckCast, InstanceOf, MonitorEnter, MonitorExit}
-use Rattle.th_syntax.specs.Machine.{Value, IntValue, LongValue, NullValue, Address, Slot, Holds, SecondHalf, Object, Instance, Array, Mark, Untouched, Done, State, class_id}
+use Rattle.th_syntax.specs.Machine.{Value, IntValue, LongValue, NullValue, Address, Slot, Holds, SecondHalf, Object, Instance, Array, Mark, Untouched, Done, EndInit, CodeFrame, InitFrame, State, class_id, method_id}
 use Rattle.th_syntax.specs.Program.{built_in_classes}
 use Rattle.th_syntax.specs.Step.{effect as effect_of}
 use Rattle.th_syntax.specs.Effects.{Top, Effect, Stuck, Ends, GoesOn, Jumps, SetsStatic, SetsObject, Makes, Opens, Calls, Returns}
@@ -358,3 +358,9 @@ effects_of rows = map (λ r. r.effect) rows
 
 abbrev pub acted : Mark → List Acting → List Effect
 acted mark rows = map (λ r. effect_of acting_program (acting_top mark r.locals r.stack) r.instr) rows
+
+-- the state with frames of two methods, one of them built in, and of an initialisation
+abbrev pub holding_state : State
+holding_state = record (acting_state Untouched) {
+  frames = CodeFrame (method_id 20) 0 [] [] ∷ CodeFrame (method_id 9) 0 [] [] ∷ InitFrame (class_id 13) EndInit ∷ [];
+}

@@ -7,17 +7,19 @@ ghost use Rattle.th_base.specs.declared.lifecycle.Lifecycle.TheVariants.{Any, Ch
 ghost use Rattle.th_base.specs.declared.number.ClassId.{ClassId};
 ghost use Rattle.th_base.specs.declared.number.FieldId.{FieldId};
 ghost use Rattle.th_syntax.specs.declared.class_file.ClassFile.{ClassFile};
-ghost use Rattle.th_syntax.specs.Machine.{Value, NullValue, Address, Instance, Untouched, Done, State};
+ghost use Rattle.th_syntax.specs.Machine.{Value, NullValue, Address, Instance, Untouched, Done, State, class_id};
 ghost use Rattle.th_syntax.specs.declared.instr.Instr.{Instr};
 ghost use Rattle.th_syntax.specs.Initial.{initial};
 ghost use Rattle.th_syntax.specs.Effects.{Top};
 ghost use Rattle.th_syntax.specs.Step.{effect};
 ghost use Rattle.th_syntax.specs.Changes.{IsAllowed, IsChange};
-ghost use Rattle.th_syntax.specs.Harness.{Launch, Handle, event};
+ghost use Rattle.th_syntax.specs.Harness.{event};
+ghost use Rattle.th_syntax.specs.declared.event.Event.TheVariants.{Launch, Handler};
 ghost use Rattle.th_base.specs.BuiltIn.{built_in_classes as built_in_infos};
 ghost use Rattle.th_syntax.specs.Program.{hierarchy_of, is_activity};
 ghost use Rattle.th_syntax.specs.Strings.{string_constants};
-ghost use Rattle.th_syntax.specs.WorkedEffects.{acting_program, acted, effects_of, moving, computing, branching, accessing, making, indexing, calling, with_abstract};
+ghost use Rattle.th_syntax.specs.WorkedEffects.{acting_program, acted, effects_of, moving, computing, branching, accessing, making, indexing, calling, with_abstract, holding_state};
+ghost use Rattle.th_syntax.specs.Held.{values_held, is_past_limit};
 ghost use Rattle.th_syntax.specs.Run.{Follows, IsReachable};
 ghost use Rattle.th_syntax.specs.Joined.{IsJoined};
 ghost use Rattle.th_syntax.specs.Facts.{IsOriginal, IsStoredInto, IsMade, IsOnPath, EveryPathStands, IsAtInstruction};
@@ -81,6 +83,15 @@ pub fn instructions_act()
     ensures strings { string_constants acting_program ≡ codes "a" ∷ codes "b" ∷ [] }
 {}
 
+/// Ten objects and two code frames hold 34 values; and when so many are too many.
+pub fn values_are_counted()
+    ensures held { values_held acting_program holding_state ≡ 34 }
+    ensures at_limit { is_past_limit 5 16777216 ≡ false }
+    ensures past { is_past_limit 16777216 16777217 ≡ true }
+    ensures as_before { is_past_limit 16777217 16777217 ≡ false }
+    ensures fewer { is_past_limit 16777218 16777217 ≡ false }
+{}
+
 /// A launch of the Activity without fields ends with one launched object.
 pub fn plain_is_launched()
     ensures { IsReachable Any plain_program (one_launched [] 0) }
@@ -95,12 +106,12 @@ pub fn storing_is_joined()
 /// Under the chart creation leads from stage 0 to stage 1, and nothing is resumed at stage 0.
 pub fn chart_is_followed()
     ensures created { IsReachable Chart storing_program (one_launched (Address 0 ∷ []) 1) }
-    ensures not_resumed { event Chart storing_program (one_launched (NullValue ∷ []) 0) (Handle 0 3 false) ≡ None }
+    ensures not_resumed { event Chart storing_program (one_launched (NullValue ∷ []) 0) (Handler 1 3 false) ≡ None }
 {}
 
 /// A built-in class is not launched.
 pub fn built_in_is_not_launched()
-    ensures { event Any storing_program (initial storing_program) (Launch 10) ≡ None }
+    ensures { event Any storing_program (initial storing_program) (Launch (class_id 10)) ≡ None }
 {}
 
 /// The Activity that clears its field when it is destroyed is joined with it before, and not after.

@@ -16,6 +16,7 @@
 
 pub mod cause;
 mod class_file;
+mod event;
 mod flags;
 mod instr;
 pub mod laws;
@@ -23,12 +24,17 @@ mod layout;
 pub mod limit;
 mod machine;
 pub mod opcode;
+mod program;
 mod refusal;
 pub mod tag;
 
 pub use class_file::{ClassFile, Code, Constant, Member};
+pub use event::Event;
 pub use flags::{ACC_ABSTRACT, ACC_INTERFACE, ACC_NATIVE, ACC_STATIC, has_flag};
 pub use instr::{Instr, MemberRef, OUTSIDE, Primitive, StackOp};
 pub use layout::{FieldLayout, FileLayout, Group, MethodLayout, PoolEntry};
-pub use machine::{Frame, InitStage, LaunchStage, Launched, Mark, Object, Slot, State, Value};
+pub use machine::{
+    Frame, InitStage, LaunchStage, Launched, MOST_VALUES_HELD, Mark, Object, Slot, State, Value,
+};
+pub use program::Program;
 pub use refusal::{Flaw, Refusal};

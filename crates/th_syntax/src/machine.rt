@@ -2,6 +2,9 @@
 use std::alloc::{AllocError, Global};
 use th_base::{ClassId, FieldId, MethodId, Same, Seq, Stack, Text, TryCopy};
 
+/// The most values that a state holds after a step or event that adds to them.
+pub const MOST_VALUES_HELD: u32 = 16_777_216;
+
 /// A value (Java specification 2.3, 2.4).
 #[derive(Clone, Copy, Debug, PartialEq, Eq)]
 pub enum Value {
