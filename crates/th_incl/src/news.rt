@@ -1,5 +1,5 @@
 // The numbers that a set doesn't hold yet.
-ghost use Rattle.std.specs.Prelude.{◌≡◌, ◌↔◌, ◌∷◌, ◌++◌, [], true, length, OnOk, IsTrue};
+ghost use Rattle.std.specs.Prelude.{◌≡◌, ◌↔◌, ◌∷◌, ◌++◌, [], true, length, IfOk, OnOk, IsTrue};
 ghost use Rattle.th_base.specs.IdSet.{IsAscending};
 ghost use Rattle.th_incl.specs.Parts.{SameMembers};
 
@@ -56,14 +56,14 @@ impl News {
         }
     }
 
-    // The numbers as a set. Takes no memory.
-    pub(crate) fn into_set(mut self) -> IdSet
-        ensures members { SameMembers self result }
-        ensures ascending { IsAscending result }
+    // The numbers as a set.
+    pub(crate) fn into_set(mut self) -> Result<IdSet, AllocError>
+        ensures members { IfOk result (λ set. SameMembers self set) }
+        ensures ascending { IfOk result (λ set. IsAscending set) }
     {
-        self.sort();
+        self.sort()?;
         let News { ids, .. } = self;
-        IdSet::from_ascending(ids)
+        Ok(IdSet::from_ascending(ids))
     }
 
     // Adds a number.
@@ -77,27 +77,30 @@ impl News {
         Ok(())
     }
 
-    // Puts the numbers in order, each once.
-    fn sort(&mut self)
-        ensures members { SameMembers self.old self.new }
-        ensures ascending { IsAscending self.new }
+    // Puts the numbers in order, each once. They came as ascending runs, one from each inclusion,
+    // which the sort merges.
+    fn sort(&mut self) -> Result<(), AllocError>
+        ensures members { OnOk result (SameMembers self.old self.new) }
+        ensures ascending { OnOk result (IsAscending self.new) }
     {
-        if !self.is_ascending {
-            self.ids.sort_unstable();
-            self.ids.dedup();
-            self.is_ascending = true;
+        if self.is_ascending {
+            return Ok(());
         }
+        self.ids.sort()?;
+        self.ids.dedup();
+        self.is_ascending = true;
+        Ok(())
     }
 
     // Where there is no room, drops repeats, and takes half as much again where at most a quarter came
     // free.
     fn make_room(&mut self) -> Result<(), AllocError>
-        ensures { SameMembers self.old self.new }
+        ensures { OnOk result (SameMembers self.old self.new) }
     {
         if self.ids.len() < self.ids.capacity() || self.ids.len() < FEW {
             return Ok(());
         }
-        self.sort();
+        self.sort()?;
         let len = self.ids.len();
         if len / 3 < self.ids.capacity() / 4 {
             return Ok(());

@@ -27,7 +27,7 @@ fn settle(
     ensures within { OnOk result (work.new.pairs ≤ limit) }
     ensures settles { IfOk result (λ r. MatchOption r (Stops limit set work.old work.new) (Settles set work.old work.new)) }
 {
-    let fresh = take_news(alloc, &mut work.news, set).into_set();
+    let fresh = take_news(alloc, &mut work.news, set).into_set()?;
     let count = fresh.len() as u64;
     if count > limit - work.pairs {
         put_news(&mut work.news, set, News::from_set(fresh));
