@@ -4,7 +4,7 @@ use Rattle.std.proofs.Common.{◌≡◌, ◌⊎◌, inl, inr, ℕ, zero, suc, �
 use Rattle.std.specs.Prelude.{nat_lt, ◌<◌, ◌||◌, ◌&&◌, ◌↔◌}
 use Rattle.std.specs.List.{AllByRecursion, list_any}
 use Rattle.std.specs.Option.{option_map_or}
-use Rattle.std.proofs.lemmas.Bool.{eqb-true, eq-eqb, ltb-true}
+use Rattle.std.proofs.lemmas.Bool.{eqb-true, eq-eqb, ltb-true, or_cases, or_right}
 use Rattle.th_base.specs.declared.class.ClassInfo.{ClassInfo}
 use Rattle.th_base.specs.declared.number.FieldId.{FieldId}
 use Rattle.th_base.specs.declared.number.MethodId.{MethodId}
@@ -23,30 +23,9 @@ use Rattle.th_ir.specs.FactSets.{FactSets, SaysWithin, set_at, sets_of, is_below
 use Rattle.th_ir.specs.Rules.{IsLeast, LeastFacts}
 use Rattle.th_ir.specs.Summaries.{SumsWithin, sums_of, IsListedMods, LeastMods}
 use Rattle.th_ir.specs.Graph.{edge_key, IsGraph, alarm_key, AreAlarms, producer_key, AreProducers}
-use Rattle.th_ir.proofs.Plain.{some_is}
+use Rattle.th_ir.proofs.Plain.{some_is, same_test, and_parts, and_both, all_at}
 
--- ---- tests
-
-same_test : (b c : Bool) → (b ≡ true → c ≡ true) → (c ≡ true → b ≡ true) → b ≡ c
-same_test true c there back = sym (there refl)
-same_test false true there back = back refl
-same_test false false there back = refl
-
-or_cases : (b c : Bool) → (b || c) ≡ true → (b ≡ true) ⊎ (c ≡ true)
-or_cases true c e = inl refl
-or_cases false c e = inr e
-
-or_second : (b c : Bool) → c ≡ true → (b || c) ≡ true
-or_second true c e = refl
-or_second false c e = e
-
-and_parts : (b c : Bool) → (b && c) ≡ true → (b ≡ true) × (c ≡ true)
-and_parts true c e = (refl, e)
-and_parts false c e = absurd cc
-
-and_both : (b c : Bool) → b ≡ true → c ≡ true → (b && c) ≡ true
-and_both true c one two = two
-and_both false c one two = absurd cc
+-- ---- members
 
 any_among : {X : Type 0} (p : X → Bool) (xs : List X) → list_any p xs ≡ true → (x : X) × Among xs x × (p x ≡ true)
 any_among p [] e = absurd cc
@@ -58,7 +37,7 @@ any_among p (x ∷ xs) e = elim (or_cases (p x) (list_any p xs) e) [
 among_any : {X : Type 0} (p : X → Bool) (xs : List X) (k : ℕ) (x : X) → slice_get xs k ≡ Some x → p x ≡ true → list_any p xs ≡ true
 among_any p [] k x at e = absurd cc
 among_any p (y ∷ xs) zero x at e = subst (λ b. (b || list_any p xs) ≡ true) (sym (ap p (some_is y x at) ∙ e)) refl
-among_any p (y ∷ xs) (suc k) x at e = or_second (p y) (list_any p xs) (among_any p xs k x at e)
+among_any p (y ∷ xs) (suc k) x at e = or_right (p y) (list_any p xs) (among_any p xs k x at e)
 
 -- ---- one list
 
@@ -149,22 +128,17 @@ listed_ascends : (xs : List ℕ) → IsListedSet xs → IsAscending xs
 listed_ascends [] is = absurd is
 listed_ascends (x ∷ xs) is = is
 
-all_among : {X : Type 0} (P : X → Type 0) (xs : List X) (k : ℕ) (x : X) → AllByRecursion P xs → slice_get xs k ≡ Some x → P x
-all_among P [] k x all e = absurd cc
-all_among P (y ∷ xs) zero x all e = subst P (some_is y x e) all.0
-all_among P (y ∷ xs) (suc k) x all e = all_among P xs k x all.1 e
-
 -- an entry of one table is one of the other
 entry_in : {X : Type 0} (key set : X → List ℕ) (remake : (x y : X) → key x ≡ key y → set x ≡ set y → x ≡ y) (xs ys : List X) → AscendBy key xs → AscendBy key ys
     → AllByRecursion (λ x. IsListedSet (set x)) xs → AllByRecursion (λ x. IsListedSet (set x)) ys
     → ((k : List ℕ) (n : ℕ) → HasEntry key set xs k n → HasEntry key set ys k n) → ((k : List ℕ) (n : ℕ) → HasEntry key set ys k n → HasEntry key set xs k n)
     → (x : X) → Among xs x → Among ys x
 entry_in {X} key set remake xs ys ascend_x ascend_y listed_x listed_y there back x a =
-    let is_x = all_among (λ z. IsListedSet (set z)) xs a.0 x listed_x a.1 in
+    let is_x = all_at (λ z. IsListedSet (set z)) xs a.0 x listed_x a.1 in
     let first = listed_first (set x) is_x in
     let at : HasEntry key set ys (key x) first.0 = there (key x) first.0 (record { entry = x; among = a; key_is = refl; member = first.1 }) in
     let y : X = at.entry in
-    let is_y = all_among (λ z. IsListedSet (set z)) ys at.among.0 y listed_y at.among.1 in
+    let is_y = all_at (λ z. IsListedSet (set z)) ys at.among.0 y listed_y at.among.1 in
     let forth' : (n : ℕ) → has (set x) n ≡ true → has (set y) n ≡ true = λ n m.
     let e = there (key x) n (record { entry = x; among = a; key_is = refl; member = m }) in
     subst (λ z. has (set z) n ≡ true) (key_once key ys e.among.0 at.among.0 e.entry y ascend_y e.among.1 at.among.1 (e.key_is ∙ sym at.key_is)) e.member in
