@@ -1,5 +1,6 @@
 pub mod Allowed
 pub mod Apart
+pub mod Applied
 pub mod Changes
 pub mod Covering
 pub mod Heaps
@@ -7,3 +8,13 @@ pub mod Plain
 pub mod Ranges
 pub mod Runs
 pub mod Slots
+pub mod TestedPrograms
+pub mod TestedSites
+pub mod TestedStatements
+pub mod WorkedChartedForm
+pub mod WorkedHandlers
+pub mod WorkedInitialisingForm
+pub mod WorkedNamingForm
+pub mod WorkedReceiversForm
+pub mod WorkedStoringForm
+pub mod WorkedVectorForm

@@ -11,6 +11,8 @@ ghost use Rattle.th_ir.specs.Rules.{HoldsRules};
 ghost use Rattle.th_ir.specs.Step.{RegReachable};
 ghost use Rattle.th_ir.specs.WellFormed.{IsWellFormed};
 
+pub mod worked;
+
 /// Every reachable state keeps the invariant.
 pub fn good()
     ensures { (h : List ClassInfo) (p : RegProgram) (t : FactSets) (s : RegState) → IsWellFormed h p → HoldsRules h p t → RegReachable h p s → IsGood h p t s }
