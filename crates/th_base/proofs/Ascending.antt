@@ -1,6 +1,6 @@
 -- Ascending lists of numbers: two that have the same members are one list.
 use Rattle.std.proofs.Common.{◌≡◌, ℕ, ◌+◌, ◌<◌, ◌≤◌, zero, suc, Bool, true, false, cond, eqb, ltb, ◌||◌, ◌&&◌, List, [], ◌∷◌, ◌++◌, length, take, drop, get_or, Result, Ok, Err, is_ok, refl, sym, ap, ◌∙◌, subst, inl, inr, arith}
-use Rattle.std.specs.List.{filter, AllByRecursion, insert}
+use Rattle.std.specs.List.{filter, AllByRecursion, insert, items_where_true}
 use Rattle.std.specs.List.Sorted.{IsBinarySearchResult}
 use Rattle.std.specs.Result.{MatchResult}
 use Rattle.std.specs.Ordering.{nat_cmp}
@@ -24,6 +24,11 @@ all_filter : (P : ℕ → Type 0) (p : ℕ → Bool) (xs : List ℕ) → AllByRe
 all_filter P p [] a = tt
 all_filter P p (x ∷ xs) a =
     elim (p x) as (λ b. AllByRecursion P (cond b (x ∷ filter p xs) (filter p xs))) [ true ↦ (a.0, all_filter P p xs a.1) | false ↦ all_filter P p xs a.1 ]
+
+all_take : (P : ℕ → Type 0) (n : ℕ) (xs : List ℕ) → AllByRecursion P xs → AllByRecursion P (take n xs)
+all_take P zero xs a = tt
+all_take P (suc n) [] a = tt
+all_take P (suc n) (x ∷ xs) a = (a.0, all_take P n xs a.1)
 
 all_below : (x : ℕ) (xs : List ℕ) → AllByRecursion (λ y. y < x) (filter (λ y. ltb y x) xs)
 all_below x [] = tt
@@ -120,6 +125,18 @@ IsAscending-filter p (x ∷ xs) a =
       | false ↦ IsAscending-filter p xs a.1
     ]
 
+all_where_true : (P : ℕ → Type 0) (bs : List Bool) (xs : List ℕ) → AllByRecursion P xs → AllByRecursion P (items_where_true bs xs)
+all_where_true P [] xs a = tt
+all_where_true P (b ∷ bs) [] a = tt
+all_where_true P (true ∷ bs) (x ∷ xs) a = (a.0, all_where_true P bs xs a.1)
+all_where_true P (false ∷ bs) (x ∷ xs) a = all_where_true P bs xs a.1
+
+pub IsAscending-where_true : (bs : List Bool) (xs : List ℕ) → IsAscending xs → IsAscending (items_where_true bs xs)
+IsAscending-where_true [] xs a = tt
+IsAscending-where_true (b ∷ bs) [] a = tt
+IsAscending-where_true (true ∷ bs) (x ∷ xs) a = (all_where_true (λ y. x < y) bs xs a.0, IsAscending-where_true bs xs a.1)
+IsAscending-where_true (false ∷ bs) (x ∷ xs) a = IsAscending-where_true bs xs a.1
+
 -- two ascending lists, each number of the first below x, of the second above it
 pub IsAscending-around : (x : ℕ) (ls rs : List ℕ) → IsAscending ls → IsAscending rs → AllByRecursion (λ y. y < x) ls → AllByRecursion (λ y. x < y) rs
     → IsAscending (ls ++ x ∷ rs)
@@ -142,6 +159,11 @@ pub IsAscending-drop : (n : ℕ) (xs : List ℕ) → IsAscending xs → IsAscend
 IsAscending-drop zero xs a = a
 IsAscending-drop (suc n) [] a = tt
 IsAscending-drop (suc n) (x ∷ xs) a = IsAscending-drop n xs a.1
+
+pub IsAscending-take : (n : ℕ) (xs : List ℕ) → IsAscending xs → IsAscending (take n xs)
+IsAscending-take zero xs a = tt
+IsAscending-take (suc n) [] a = tt
+IsAscending-take (suc n) (x ∷ xs) a = (all_take (λ y. x < y) n xs a.0, IsAscending-take n xs a.1)
 
 -- ---- one list
 
@@ -177,7 +199,7 @@ same_members (x ∷ xs) (y ∷ ys) a b same =
 
 -- ---- what a binary search finds
 
-front_below : (x i : ℕ) (xs : List ℕ) → i ≤ length xs → ((k : ℕ) → k < i → get_or xs k 0 < x) → AllByRecursion (λ y. y < x) (take i xs)
+pub front_below : (x i : ℕ) (xs : List ℕ) → i ≤ length xs → ((k : ℕ) → k < i → get_or xs k 0 < x) → AllByRecursion (λ y. y < x) (take i xs)
 front_below x zero xs h b = tt
 front_below x (suc i) [] h b = tt
 front_below x (suc i) (y ∷ ys) h b = (b 0 (omega arith), front_below x i ys (omega arith) (λ k g. b (suc k) (omega arith)))
@@ -186,7 +208,7 @@ back_above : (x : ℕ) (xs : List ℕ) → ((k : ℕ) → k < length xs → x < 
 back_above x [] b = tt
 back_above x (y ∷ ys) b = (b 0 (omega arith), back_above x ys (λ k g. b (suc k) (omega arith)))
 
-filter_all_below : (x : ℕ) (xs : List ℕ) → AllByRecursion (λ y. y < x) xs → filter (λ y. ltb y x) xs ≡ xs
+pub filter_all_below : (x : ℕ) (xs : List ℕ) → AllByRecursion (λ y. y < x) xs → filter (λ y. ltb y x) xs ≡ xs
 filter_all_below x [] a = refl
 filter_all_below x (y ∷ ys) a = rw (lt-ltb y x a.0, filter_all_below x ys a.1) refl
 
@@ -210,7 +232,7 @@ inserted_between x ls rs below above =
 pub absent_between : (x : ℕ) (ls rs : List ℕ) → AllByRecursion (λ y. y < x) ls → AllByRecursion (λ y. x < y) rs → has (ls ++ rs) x ≡ false
 absent_between x ls rs below above = rw (has-append ls rs x, absent_above x ls below, absent_below x rs above) refl
 
-get_or-le : (xs : List ℕ) → IsAscending xs → (i j : ℕ) → i ≤ j → j < length xs → get_or xs i 0 ≤ get_or xs j 0
+pub get_or-le : (xs : List ℕ) → IsAscending xs → (i j : ℕ) → i ≤ j → j < length xs → get_or xs i 0 ≤ get_or xs j 0
 get_or-le [] a i j h g = absurd (omega arith)
 get_or-le (x ∷ xs) a zero zero h g = omega arith
 get_or-le (x ∷ xs) a zero (suc j) h g = let above : x < get_or xs j 0 = all_at (λ y. x < y) xs a.0 j (omega arith) in omega arith

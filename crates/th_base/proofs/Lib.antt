@@ -10,4 +10,5 @@ pub mod Named
 pub mod Ordered
 pub mod Orders
 pub mod Rows
+pub mod Sieve
 pub mod Upward

@@ -1,5 +1,5 @@
 -- Sets of numbers, as ascending lists.
-use Rattle.std.specs.Prelude.{ℕ, ◌<◌, ◌==◌, nat_lt, Bool, List, [], ◌∷◌, ◌++◌, filter, ⊤}
+use Rattle.std.specs.Prelude.{ℕ, ◌<◌, ◌==◌, nat_lt, Bool, not, List, [], ◌∷◌, ◌++◌, filter, ⊤}
 use Rattle.std.specs.List.{list_any, AllByRecursion}
 
 -- whether a number is in a list
@@ -23,3 +23,7 @@ union_of xs (y ∷ ys) = inserted y (union_of xs ys)
 -- the numbers of the first list that are in the second
 abbrev pub intersection_of : List ℕ → List ℕ → List ℕ
 intersection_of xs ys = filter (has ys) xs
+
+-- the numbers of the first list that are not in the second
+abbrev pub difference_of : List ℕ → List ℕ → List ℕ
+difference_of xs ys = filter (λ x. not (has ys x)) xs

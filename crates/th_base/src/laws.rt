@@ -1,5 +1,5 @@
 // What readers expect of the rules of sets and of the hierarchy, over all lists.
-ghost use Rattle.std.specs.Prelude.{◌≡◌, ◌<◌, ◌==◌, ◌&&◌, ◌||◌, ℕ, List, [], ◌∷◌, ◌++◌, Some, true, length};
+ghost use Rattle.std.specs.Prelude.{◌≡◌, ◌<◌, ◌≤◌, ◌==◌, ◌&&◌, not, ◌||◌, ℕ, List, [], ◌∷◌, ◌++◌, Some, true, length};
 ghost use Rattle.std.specs.List.{flat_map};
 ghost use Rattle.std.specs.Option.{option_or, option_map, option_and_then, option_map_or};
 ghost use Rattle.th_base.specs.declared.class.ClassInfo.{ClassInfo};
@@ -7,7 +7,7 @@ ghost use Rattle.th_base.specs.declared.class.FieldInfo.{FieldInfo};
 ghost use Rattle.th_base.specs.declared.class.MethodInfo.{MethodInfo};
 ghost use Rattle.th_base.specs.declared.number.MethodId.{MethodId};
 ghost use Rattle.th_base.specs.Hierarchy.{IsAcyclic, superclass_of, interfaces_of, direct_supertypes, lineage_of, supertypes_of, superinterfaces_of, is_subclass, first_some, declared_field, resolved_field, overriding_method, first_overriding, selected_method, IsSelected};
-ghost use Rattle.th_base.specs.IdSet.{has, IsAscending, inserted, union_of, intersection_of};
+ghost use Rattle.th_base.specs.IdSet.{has, IsAscending, inserted, union_of, intersection_of, difference_of};
 ghost use Rattle.th_base.specs.Subtype.{is_subtype, AreAboveAll};
 
 pub mod programs;
@@ -33,6 +33,17 @@ pub fn members_of_union()
 pub fn members_of_intersection()
     ensures members { (xs ys : List ℕ) (x : ℕ) → has (intersection_of xs ys) x ≡ (has ys x && has xs x) }
     ensures ascending { (xs ys : List ℕ) → IsAscending xs → IsAscending (intersection_of xs ys) }
+{}
+
+/// A difference has the members of the first set that the second hasn't.
+pub fn members_of_difference()
+    ensures members { (xs ys : List ℕ) (x : ℕ) → has (difference_of xs ys) x ≡ (not (has ys x) && has xs x) }
+    ensures ascending { (xs ys : List ℕ) → IsAscending xs → IsAscending (difference_of xs ys) }
+{}
+
+/// A set of numbers below n has at most n members.
+pub fn members_below_a_bound()
+    ensures { (n : ℕ) (xs : List ℕ) → IsAscending xs → ((x : ℕ) → has xs x ≡ true → x < n) → length xs ≤ n }
 {}
 
 /// The superclasses of a class are its superclass and that one's superclasses: the bound on the

@@ -26,7 +26,9 @@ mod number;
 mod operation;
 mod order;
 mod seq;
+mod set_walks;
 mod shape;
+mod stack;
 mod text;
 
 pub use built_in::{
@@ -48,7 +50,10 @@ pub use number::{ClassId, EdgeId, FieldId, MethodId, NodeId, Reg, SiteId};
 pub use operation::{ArithOp, Elem, NarrowOp, Relation};
 pub use order::acyclic;
 pub use seq::Seq;
+pub use stack::Stack;
 pub use text::Text;
 
 #[cfg(test)]
 mod tests;
+#[cfg(test)]
+mod value_tests;

@@ -1,6 +1,7 @@
 // A `Vec` that contracts see as the list of its items.
 ghost use Rattle.std.specs.Prelude.{◌≡◌, ◌↔◌, ◌<◌, [], ◌∷◌, ◌++◌, length, slice_get, slice_set, IfOk, OnOk, OnErr, OnSome, IsTrue, MatchOption};
 ghost use Rattle.std.specs.Option.{option_copied};
+ghost use Rattle.std.specs.Fn.{FnReturnsAt, FnReturnsAtPair};
 
 use crate::{Same, TryCopy};
 use std::alloc::{AllocError, Global};
@@ -95,6 +96,32 @@ impl<T> Seq<T> {
         self.items.pop()
     }
 
+    /// A copy of each item, in order, by a function that copies one: for types that have no
+    /// `TryCopy`.
+    pub fn copy_with<F>(&self, alloc: Global, copy: F) -> Result<Seq<T>, AllocError>
+    where
+        T: Drop,
+        F: Fn(&T) -> Result<T, AllocError> + Drop,
+        requires callable { F.IsAlwaysCallable copy }
+        requires exact { (x : T) (r : _) → FnReturnsAt F.Fn copy x r → IfOk r (λ y. y ≡ x) }
+        ensures { IfOk result (λ seq. seq ≡ self.now) }
+    {
+        let items = copy_items_with(alloc, self.items.as_slice(), &copy)?;
+        Ok(Seq { items })
+    }
+
+    /// Whether the items of both are the same, by a function that compares two: for types that have
+    /// no `Same`.
+    pub fn same_with<F>(&self, other: &Seq<T>, same: F) -> bool
+    where
+        F: Fn(&T, &T) -> bool + Drop,
+        requires callable { F.IsAlwaysCallable same }
+        requires exact { (x y : T) (r : _) → FnReturnsAtPair F.Fn same x y r → (IsTrue r ↔ (x ≡ y)) }
+        ensures { IsTrue result ↔ (self.now ≡ other.now) }
+    {
+        same_items_with(self.items.as_slice(), other.items.as_slice(), &same)
+    }
+
     /// Puts an item in the place of the one that stands there.
     pub fn set(&mut self, at: usize, item: T)
     where
@@ -144,6 +171,59 @@ fn same_items<T: Same>(left: &[T], right: &[T]) -> bool
     }
     for i in 0..left.len() {
         if !left[i].same(&right[i]) {
+            return false;
+        }
+    }
+    true
+}
+
+fn copy_with<T, F>(copy: &F, item: &T) -> Result<T, AllocError>
+where
+    F: Fn(&T) -> Result<T, AllocError>,
+    requires callable { F.IsAlwaysCallable copy.now }
+    requires exact { (x : T) (r : _) → FnReturnsAt F.Fn copy.now x r → IfOk r (λ y. y ≡ x) }
+    ensures { IfOk result (λ y. y ≡ item.now) }
+{
+    copy(item)
+}
+
+fn same_by<T, F>(same: &F, left: &T, right: &T) -> bool
+where
+    F: Fn(&T, &T) -> bool,
+    requires callable { F.IsAlwaysCallable same.now }
+    requires exact { (x y : T) (r : _) → FnReturnsAtPair F.Fn same.now x y r → (IsTrue r ↔ (x ≡ y)) }
+    ensures { IsTrue result ↔ (left.now ≡ right.now) }
+{
+    same(left, right)
+}
+
+fn copy_items_with<T, F>(alloc: Global, items: &[T], copy: &F) -> Result<Vec<T>, AllocError>
+where
+    T: Drop,
+    F: Fn(&T) -> Result<T, AllocError>,
+    requires callable { F.IsAlwaysCallable copy.now }
+    requires exact { (x : T) (r : _) → FnReturnsAt F.Fn copy.now x r → IfOk r (λ y. y ≡ x) }
+    ensures { IfOk result (λ copies. copies.items ≡ items.now) }
+{
+    let mut copies = Vec::new(alloc);
+    for item in items {
+        copies.push(copy_with(copy, item)?)?;
+    }
+    Ok(copies)
+}
+
+fn same_items_with<T, F>(left: &[T], right: &[T], same: &F) -> bool
+where
+    F: Fn(&T, &T) -> bool,
+    requires callable { F.IsAlwaysCallable same.now }
+    requires exact { (x y : T) (r : _) → FnReturnsAtPair F.Fn same.now x y r → (IsTrue r ↔ (x ≡ y)) }
+    ensures { IsTrue result ↔ (left.now ≡ right.now) }
+{
+    if left.len() != right.len() {
+        return false;
+    }
+    for i in 0..left.len() {
+        if !same_by(same, &left[i], &right[i]) {
             return false;
         }
     }

@@ -1,7 +1,7 @@
-// Each call once with ample memory, and the look-ups over one hierarchy.
+// The look-ups over one hierarchy, each with ample memory.
 use crate::{
-    ClassId, ClassInfo, FieldId, FieldInfo, Hierarchy, IdSet, MethodId, MethodInfo, Name, Same,
-    Seq, Text, TryCopy, acyclic,
+    ClassId, ClassInfo, FieldId, FieldInfo, Hierarchy, MethodId, MethodInfo, Same, Seq, Text,
+    TryCopy, acyclic,
 };
 use std::alloc::{AllocError, Global};
 use std::process::Abort;
@@ -304,41 +304,9 @@ fn cycles_are_found(rt: HostRuntime) -> Result<(), Fail> {
     Ok(())
 }
 
-fn set_of(alloc: Global, ids: &[u32]) -> Result<IdSet, AllocError> {
-    let mut set = IdSet::new(alloc);
-    for id in ids {
-        set.insert(*id)?;
-    }
-    Ok(set)
-}
-
 #[test]
-fn sets_are_ascending_lists(rt: HostRuntime) -> Result<(), Fail> {
+fn classes_are_copied_and_compared(rt: HostRuntime) -> Result<(), Fail> {
     let alloc = rt.alloc();
-    let low = set_of(alloc, &[7, 3, 5, 5])?;
-    let high = set_of(alloc, &[9, 5])?;
-    let all = low.union(alloc, &high)?;
-    let common = low.intersection(alloc, &high)?;
-    assert_eq!(rt; low.ids(), [3, 5, 7].as_slice());
-    assert_eq!(rt; all.ids(), [3, 5, 7, 9].as_slice());
-    assert_eq!(rt; common.ids(), [5].as_slice());
-    assert!(rt; low.contains(7) && !low.contains(4) && low.iter().count() == 3);
-    assert!(rt; common.is_subset(&high) && !low.is_subset(&high) && !low.is_disjoint(&high));
-    Ok(())
-}
-
-#[test]
-fn plain_values_are_copied_and_compared(rt: HostRuntime) -> Result<(), Fail> {
-    let alloc = rt.alloc();
-    let mut word = text(alloc, "a")?;
-    word.push_bytes(b"b")?;
-    assert!(rt; word.same(&text(alloc, "ab")?));
-    let name = Name::from_str(alloc, "Act.class")?;
-    assert!(rt; name.try_copy(alloc)?.same(&name));
-    let set = set_of(alloc, &[2, 1])?;
-    assert!(rt; set.try_copy(alloc)?.same(&set));
-    let numbers = Seq::from_slice(alloc, &[1u8, 2])?;
-    assert!(rt; numbers.try_copy(alloc)?.same(&numbers));
     let class = class_of(alloc, "x/A 10 12,13 g m,!p", 0)?;
     assert!(rt; class.try_copy(alloc)?.same(&class));
     Ok(())

@@ -184,9 +184,12 @@ by_statement h p t s f below node (Narrow dst op a) c wf at is proper obeys apar
 by_statement h p t s f below node (AnyInt dst) c wf at is proper obeys apart e = set_any h p t s f node dst c apart proper e
 by_statement h p t s f below node (Assume condition) c wf at is proper obeys apart e = set_none h p t s f node c e.1
 by_statement h p t s f below node (GetStatic dst g) c wf at is proper obeys apart e =
-    set_one h p t s f node dst (s.statics g.0) c apart (held_more s.heap (t.static g.0) (t.reg dst.0) (is_ref_field h g.0) (is_ref p dst.0) (s.statics g.0) obeys proper.0 (at.good.statics g.0)) e
+    set_one h p t s f node dst (s.statics g.0) c apart (held_more s.heap (t.static g.0) (t.reg dst.0) (is_ref_field h g.0) (is_ref p dst.0) (s.statics g.0) obeys proper.0 (at.good.statics g.0).held) e
 by_statement h p t s f below node (PutStatic g src) c wf at is proper obeys apart e =
-    subst (Allowed h p t s f node) (sym e) (held_more s.heap (t.reg src.0) (t.static g.0) (is_ref p src.0) (is_ref_field h g.0) (f.regs src.0) obeys (sym proper.0) (at.frames.0.regs src.0).held)
+    subst (Allowed h p t s f node) (sym e) record {
+      static = proper.1;
+      held = held_more s.heap (t.reg src.0) (t.static g.0) (is_ref p src.0) (is_ref_field h g.0) (f.regs src.0) obeys (sym proper.0) (at.frames.0.regs src.0).held;
+    }
 by_statement h p t s f below node (GetField dst base g) c wf at is proper obeys apart e =
     let o = e.0.object in
     let from = field_held h p t s.heap o.site g.0 o.contents e.1 (at.good.heap e.0.address o e.0.stands) e.2 in

@@ -14,7 +14,7 @@ use Rattle.th_ir.specs.declared.program.Node.{Node}
 use Rattle.th_ir.specs.declared.stmt.Stmt.{Stmt}
 use Rattle.th_ir.specs.declared.stmt.Stmt.TheVariants.{Call, Init, Return}
 use Rattle.th_ir.specs.Program.{Among, AreDistinct, node_at, method_at, is_ref, is_harness}
-use Rattle.th_ir.specs.Fields.{stage_field, is_ref_field, class_has}
+use Rattle.th_ir.specs.Fields.{stage_field, is_ref_field, is_static_field, class_has}
 use Rattle.th_ir.specs.Sites.{site_class, is_ref_array, is_string_site, launch_class}
 use Rattle.th_ir.specs.Machine.{RegValue, IntValue, NullValue, Address, Contents, RegObject, RegFrame, RegState, field_value, first_value, written, static_written, with_field, with_element, changed_at}
 use Rattle.th_ir.specs.Effects.{Change, Sets, SetsStatic, SetsField, SetsElement, Makes, Enters, Leaves}
@@ -23,9 +23,9 @@ use Rattle.th_ir.specs.FactSets.{FactSets}
 use Rattle.th_ir.specs.Rules.{FlowsOut, CallsAll, Obeys, HoldsRules}
 use Rattle.th_ir.specs.Statements.{HasEntry, IsCallee, FitsResult, FitsCallee, IsProper}
 use Rattle.th_ir.specs.WellFormed.{IsWellFormed}
-use Rattle.th_ir.specs.Good.{IsHeld, IsContents, IsLaunchObject, IsLaunchValue, IsPickValue, pick_register, IsReg, IsFrame, Waits, StandsWaiting, AreStacked, AreStaged, IsGood}
+use Rattle.th_ir.specs.Good.{IsHeld, IsContents, IsStaticValue, IsLaunchObject, IsLaunchValue, IsPickValue, pick_register, IsReg, IsFrame, Waits, StandsWaiting, AreStacked, AreStaged, IsGood}
 use Rattle.th_ir.proofs.Plain.{some_is, same_found, not_both, changed_number, all_map, all_append, absent_left, distinct_last}
-use Rattle.th_ir.proofs.Heaps.{IsExtended, same_heap, get_new, grown, grown_cases, changed, changed_cases, with_contents, held_on, held_more, contents_on, launched_on, reg_on, frame_on, written_all, field_put, element_put, field_stage, element_stage, next_not_launched}
+use Rattle.th_ir.proofs.Heaps.{IsExtended, same_heap, get_new, grown, grown_cases, changed, changed_cases, with_contents, static_on, held_more, contents_on, launched_on, reg_on, frame_on, written_all, field_put, element_put, field_stage, element_stage, next_not_launched}
 use Rattle.th_ir.proofs.Apart.{IsPlain, IsPlainResult, IsApart, node_apart, harness_entry, listed_harness, launch_special, pick_special}
 
 -- the state and its innermost frame at a node, before a step
@@ -58,6 +58,11 @@ pub record MaySetField (h : List ClassInfo) (p : RegProgram) (t : FactSets) (s :
   pub held : IsHeld s.heap (t.cell object.site f) (is_ref_field h f) v
   pub staged : f ≡ stage_field → has s.launched a ≡ true
 
+-- what a store into a static field must meet
+pub record MaySetStatic (h : List ClassInfo) (t : FactSets) (s : RegState) (f : ℕ) (v : RegValue) : Type 0 where
+  pub static : is_static_field h f ≡ true
+  pub held : IsHeld s.heap (t.static f) (is_ref_field h f) v
+
 pub record MaySetElement (p : RegProgram) (t : FactSets) (s : RegState) (a : ℕ) (v : RegValue) : Type 0 where
   pub object : RegObject
   pub stands : slice_get s.heap a ≡ Some object
@@ -85,7 +90,7 @@ pub record MayLeave (node : Node) (src : Option ℕ) : Type 0 where
 -- what must hold of a change
 abbrev pub Allowed : List ClassInfo → RegProgram → FactSets → RegState → RegFrame → Node → Change → Type 0
 Allowed h p t s f node (Sets ws) = AllByRecursion (IsWritten p t s f.method) ws
-Allowed h p t s f node (SetsStatic g v) = IsHeld s.heap (t.static g) (is_ref_field h g) v
+Allowed h p t s f node (SetsStatic g v) = MaySetStatic h t s g v
 Allowed h p t s f node (SetsField a g v) = MaySetField h p t s a g v
 Allowed h p t s f node (SetsElement a k v) = MaySetElement p t s a v
 Allowed h p t s f node (Makes dst o) = MayMake h p t s f.method dst o
@@ -102,7 +107,7 @@ stack_on h p t f k regs (g ∷ below) stack = stack
 pub record IsNext (h : List ClassInfo) (p : RegProgram) (t : FactSets) (s : RegState) (f : RegFrame) (regs : ℕ → RegValue) (heap : List RegObject) (statics : ℕ → RegValue) : Type 0 where
   pub grows : IsExtended s.heap heap
   pub objects : (a : ℕ) (o : RegObject) → slice_get heap a ≡ Some o → IsContents h p t heap o.site o.contents
-  pub statics_held : (g : ℕ) → IsHeld heap (t.static g) (is_ref_field h g) (statics g)
+  pub statics_held : (g : ℕ) → IsStaticValue h t heap g (statics g)
   pub regs_held : (r : ℕ) → IsReg p t heap s.launched f.method r (regs r)
   pub staged : AreStaged heap s.launched
 
@@ -161,7 +166,7 @@ changed_next h p t s f a o g good frame stands put stage =
             subst (λ (x : RegObject). IsContents h p t more x.site x.contents) new.3
             (contents_on h p t s.heap more ext new.0.site (g new.0.contents) (subst (λ (x : RegObject). IsContents h p t s.heap x.site (g x.contents)) same here))
       ];
-      statics_held = λ k. held_on s.heap more ext (t.static k) (is_ref_field h k) (s.statics k) (good.statics k);
+      statics_held = λ k. static_on h t s.heap more ext k (s.statics k) (good.statics k);
       regs_held = λ r. reg_on p t s.heap more ext s.launched f.method r (f.regs r) (frame.regs r);
       staged = λ b w v e is out. elim (changed_cases s.heap a g b w e) [
         | inl old ↦ good.staged b w v old is out
@@ -188,7 +193,7 @@ made_next h p t s f dst o good frame may =
         | inl old ↦ contents_on h p t s.heap more ext w.site w.contents (good.heap a w old)
         | inr same ↦ subst (λ (x : RegObject). IsContents h p t more x.site x.contents) same.0 (contents_on h p t s.heap more ext o.site o.contents may.contents)
       ];
-      statics_held = λ k. held_on s.heap more ext (t.static k) (is_ref_field h k) (s.statics k) (good.statics k);
+      statics_held = λ k. static_on h t s.heap more ext k (s.statics k) (good.statics k);
       regs_held = written_all (λ (r : ℕ) (v : RegValue). IsReg p t more s.launched f.method r v) ((dst, Address (length s.heap)) ∷ []) f.regs (new, tt)
           (λ r. reg_on p t s.heap more ext s.launched f.method r (f.regs r) (frame.regs r));
       staged = λ a w v e is out. elim (grown_cases s.heap o a w e) [
@@ -360,7 +365,7 @@ happens h p t s u f below node (SetsStatic g v) wf rules at may step =
     goes_on_top h p t s f below node f.regs s.heap (static_written g v s.statics) u wf at record {
       grows = same_heap s.heap;
       objects = at.good.heap;
-      statics_held = λ k. changed_number (λ (j : ℕ) (w : RegValue). IsHeld s.heap (t.static j) (is_ref_field h j) w) k g v (s.statics k) may (at.good.statics k);
+      statics_held = λ k. changed_number (IsStaticValue h t s.heap) k g v (s.statics k) (record { held = may.held; others = λ out. absurd (not_both (is_static_field h g) may.static out) }) (at.good.statics k);
       regs_held = at.frames.0.regs;
       staged = at.good.staged;
     } step

@@ -30,7 +30,7 @@ array_of h p t heap s k (Array elements) v is e = is.0
 pub good_covered : (h : List ClassInfo) (p : RegProgram) (t : FactSets) (s : RegState) → IsWellFormed h p → IsGood h p t s → Covers h p t s
 good_covered h p t s wf good = record {
   regs = λ f among r. has_site s.heap (t.reg r) (is_ref p r) (f.regs r) ((frame_among p t s f good.frames among).regs r).held;
-  statics = λ g. has_site s.heap (t.static g) (is_ref_field h g) (s.statics g) (good.statics g);
+  statics = λ g. has_site s.heap (t.static g) (is_ref_field h g) (s.statics g) (good.statics g).held;
   fields = λ a o g v e is.
       let held = field_held h p t s.heap o.site g o.contents v (good.heap a o e) is in
       record { has_slot = has_slot h p o.site g wf.numbers held.0; site = has_site s.heap (t.cell o.site g) (is_ref_field h g) v held.1 };

@@ -12,7 +12,7 @@ use Rattle.th_ir.specs.Fields.{stage_field, is_ref_field, class_has}
 use Rattle.th_ir.specs.Sites.{site_class, is_ref_array, launch_class}
 use Rattle.th_ir.specs.Machine.{RegValue, IntValue, NullValue, Address, Contents, Instance, Array, RegObject, RegFrame, RegState, PointsTo, field_value, element_value, written, with_field, with_element, changed_at}
 use Rattle.th_ir.specs.FactSets.{FactSets, IsWithin}
-use Rattle.th_ir.specs.Good.{IsHeld, IsFieldHeld, IsContents, IsLaunchObject, IsLaunchValue, IsReg, IsFrame}
+use Rattle.th_ir.specs.Good.{IsHeld, IsFieldHeld, IsContents, IsStaticValue, IsLaunchObject, IsLaunchValue, IsReg, IsFrame}
 use Rattle.th_ir.proofs.Plain.{some_is, same_found, changed_number, all_map, all_at, all_set, length_set}
 
 -- ---- heaps
@@ -90,6 +90,9 @@ pub contents_on : (h : List ClassInfo) (p : RegProgram) (t : FactSets) (heap mor
 contents_on h p t heap more ext s (Instance fields) is = (is.0, is.1, λ f. field_on h heap more ext (t.cell s f) is.0 f (fields f) (is.2 f))
 contents_on h p t heap more ext s (Array elements) is =
     (is.0, is.1, all_map (IsHeld heap (t.elem s) (is_ref_array p s)) (IsHeld more (t.elem s) (is_ref_array p s)) (held_on heap more ext (t.elem s) (is_ref_array p s)) elements is.2)
+
+pub static_on : (h : List ClassInfo) (t : FactSets) (heap more : List RegObject) → IsExtended heap more → (f : ℕ) (v : RegValue) → IsStaticValue h t heap f v → IsStaticValue h t more f v
+static_on h t heap more ext f v is = record { held = held_on heap more ext (t.static f) (is_ref_field h f) v is.held; others = is.others }
 
 pub launched_on : (p : RegProgram) (heap more : List RegObject) → IsExtended heap more → (a : ℕ) → IsLaunchObject p heap a → IsLaunchObject p more a
 launched_on p heap more ext a is =

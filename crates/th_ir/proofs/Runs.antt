@@ -12,7 +12,7 @@ use Rattle.th_ir.specs.declared.program.Place.{Place}
 use Rattle.th_ir.specs.declared.program.Place.TheVariants.{Str as AtString, Launch as AtLaunch, Event as AtEvent, Code as AtCode}
 use Rattle.th_ir.specs.declared.program.Site.{Site}
 use Rattle.th_ir.specs.Program.{site_at}
-use Rattle.th_ir.specs.Fields.{stage_field, is_ref_field, class_has}
+use Rattle.th_ir.specs.Fields.{stage_field, is_ref_field, is_static_field, class_has}
 use Rattle.th_ir.specs.Sites.{site_class, is_string_place, is_string_site}
 use Rattle.th_ir.specs.Machine.{RegValue, IntValue, Address, RegObject, RegFrame, RegState, field_value, new_field, new_object, strings_from, value_or, constant_in, initial_state}
 use Rattle.th_ir.specs.Step.{StepFrom, RegRun, RegReachable}
@@ -20,8 +20,8 @@ use Rattle.th_ir.specs.Effects.{IsInt}
 use Rattle.th_ir.specs.FactSets.{FactSets}
 use Rattle.th_ir.specs.Rules.{HoldsRules}
 use Rattle.th_ir.specs.WellFormed.{IsPlaced, StringsFirst, IsConstantField, IsWellFormed}
-use Rattle.th_ir.specs.Good.{IsHeld, IsContents, IsFrame, AreStacked, IsGood}
-use Rattle.th_ir.proofs.Plain.{some_is, all_at, all_both}
+use Rattle.th_ir.specs.Good.{IsHeld, IsContents, IsStaticValue, IsFrame, AreStacked, IsGood}
+use Rattle.th_ir.proofs.Plain.{some_is, not_both, all_at, all_both}
 use Rattle.th_ir.proofs.Changes.{AtNode, happens, started, first_held}
 use Rattle.th_ir.proofs.Allowed.{allowed, new_field_held, first_stage}
 
@@ -104,6 +104,10 @@ chosen : (P : RegValue → Type 0) (k f : ℕ) (v w : RegValue) (b : Bool) → (
 chosen P k f v w true is e gives = subst P (some_is v w e) (gives (eqb-true k f is))
 chosen P k f v w false is e gives = absurd cc
 
+-- the constant of a static field
+constant_value : (h : List ClassInfo) (t : FactSets) (heap : List RegObject) (k f : ℕ) (v : RegValue) → is_static_field h k ≡ true → k ≡ f → IsHeld heap (t.static f) (is_ref_field h f) v → IsStaticValue h t heap f v
+constant_value h t heap k f v static same held = record { held = held; others = λ out. absurd (not_both (is_static_field h f) (ap (is_static_field h) (sym same) ∙ static) out) }
+
 -- ---- the initial state
 
 initial_good : (h : List ClassInfo) (p : RegProgram) (t : FactSets) → IsWellFormed h p → HoldsRules h p t → IsGood h p t (initial_state h p)
@@ -120,14 +124,15 @@ initial_good h p t wf rules =
           subst (λ (x : RegObject). IsContents h p t heap x.site x.contents) (sym (at.object ∙ ap (new_object h STRING_NUMBER) number)) new;
       strings = strings;
       statics = λ f.
-          let P = λ (v : RegValue). IsHeld heap (t.static f) (is_ref_field h f) v in
+          let P = λ (v : RegValue). IsStaticValue h t heap f v in
           constant_all P (λ (i : FieldId × _). IsConstantField h i.0 false × IsInt i.1) (λ i. if i.0.0 == f then Some (IntValue i.1) else None) _
-          (λ i v q e. chosen P i.0.0 f (IntValue i.1) v (i.0.0 == f) refl e (λ same. (ap (is_ref_field h) (sym same) ∙ q.0.1, q.1))) p.ints wf.constants.ints
+          (λ i v q e. chosen P i.0.0 f (IntValue i.1) v (i.0.0 == f) refl e (λ same. constant_value h t heap i.0.0 f (IntValue i.1) q.0.0 same (ap (is_ref_field h) (sym same) ∙ q.0.1, q.1))) p.ints wf.constants.ints
           (constant_all P (λ (i : FieldId × SiteId). (IsConstantField h i.0 true × (is_string_site p i.1.0 ≡ true)) × (t.static i.0.0 i.1.0 ≡ true)) (λ i. if i.0.0 == f then Some (Address i.1.0) else None) _
           (λ i v q e. chosen P i.0.0 f (Address i.1.0) v (i.0.0 == f) refl e
           (λ same. let o = strings i.1.0 q.0.1 in
+          constant_value h t heap i.0.0 f (Address i.1.0) q.0.0.0 same
           (ap (is_ref_field h) (sym same) ∙ q.0.0.1, (o.0, o.1, subst (λ (x : ℕ). t.static x o.0.site ≡ true) same (subst (λ (x : ℕ). t.static i.0.0 x ≡ true) (sym o.2) q.1)))))
-          p.strings (all_both (λ (i : FieldId × SiteId). IsConstantField h i.0 true × (is_string_site p i.1.0 ≡ true)) (λ i. t.static i.0.0 i.1.0 ≡ true) p.strings wf.constants.strings rules.constants) (first_held heap (t.static f) (is_ref_field h f)));
+          p.strings (all_both (λ (i : FieldId × SiteId). IsConstantField h i.0 true × (is_string_site p i.1.0 ≡ true)) (λ i. t.static i.0.0 i.1.0 ≡ true) p.strings wf.constants.strings rules.constants) (record { held = first_held heap (t.static f) (is_ref_field h f); others = λ out. refl }));
       launched = tt;
       distinct = tt;
       frames = tt;

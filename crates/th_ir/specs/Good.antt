@@ -9,10 +9,10 @@ use Rattle.th_ir.specs.declared.program.Node.{Node}
 use Rattle.th_ir.specs.declared.stmt.Stmt.{Stmt}
 use Rattle.th_ir.specs.declared.stmt.Stmt.TheVariants.{Nop, Const, Null, Str, Copy, Arith, Neg, AddConst, Narrow, AnyInt, Assume, GetStatic, PutStatic, GetField, PutField, GetElem, PutElem, Length, New, NewArray, Cast, InstanceOf, Call, Init, Return, Pick, NonNull, Halt}
 use Rattle.th_ir.specs.Program.{AreDistinct, node_at, is_ref, is_harness}
-use Rattle.th_ir.specs.Fields.{stage_field, is_ref_field, class_has}
+use Rattle.th_ir.specs.Fields.{stage_field, is_ref_field, is_static_field, class_has}
 use Rattle.th_ir.specs.Sites.{site_class, is_array_site, is_ref_array, is_string_site, launch_class}
 use Rattle.th_ir.specs.Calls.{IsTarget, IsInitialiser}
-use Rattle.th_ir.specs.Machine.{RegValue, IntValue, NullValue, Address, Contents, Instance, Array, RegObject, RegFrame, RegState, field_value}
+use Rattle.th_ir.specs.Machine.{RegValue, IntValue, NullValue, Address, Contents, Instance, Array, RegObject, RegFrame, RegState, field_value, first_value}
 use Rattle.th_ir.specs.Effects.{IsInt}
 use Rattle.th_ir.specs.Step.{launch_register}
 use Rattle.th_ir.specs.FactSets.{FactSets}
@@ -39,6 +39,13 @@ IsContents h p t heap s (Instance fields) =
     (c : ℕ) × (site_class h p s ≡ Some c) × ((f : ℕ) → IsFieldHeld h heap (t.cell s f) c f (fields f))
 IsContents h p t heap s (Array elements) =
     (is_array_site p s ≡ true) × (length elements < 2 ^ 31) × AllByRecursion (IsHeld heap (t.elem s) (is_ref_array p s)) elements
+
+-- ---- static fields
+
+-- a static field holds what its kind and the facts say; what is no static field holds its first value
+pub record IsStaticValue (h : List ClassInfo) (t : FactSets) (heap : List RegObject) (f : ℕ) (v : RegValue) : Type 0 where
+  pub held : IsHeld heap (t.static f) (is_ref_field h f) v
+  pub others : is_static_field h f ≡ false → v ≡ first_value (is_ref_field h f)
 
 -- ---- launched objects
 
@@ -121,7 +128,7 @@ AreStaged heap launched =
 pub record IsGood (h : List ClassInfo) (p : RegProgram) (t : FactSets) (s : RegState) : Type 0 where
   pub heap : (a : ℕ) (o : RegObject) → slice_get s.heap a ≡ Some o → IsContents h p t s.heap o.site o.contents
   pub strings : (a : ℕ) → is_string_site p a ≡ true → (o : RegObject) × (slice_get s.heap a ≡ Some o) × (o.site ≡ a)
-  pub statics : (f : ℕ) → IsHeld s.heap (t.static f) (is_ref_field h f) (s.statics f)
+  pub statics : (f : ℕ) → IsStaticValue h t s.heap f (s.statics f)
   pub launched : AllByRecursion (IsLaunchObject p s.heap) s.launched
   pub distinct : AreDistinct s.launched
   pub frames : AllByRecursion (IsFrame p t s.heap s.launched) s.frames

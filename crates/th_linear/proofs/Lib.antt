@@ -10,3 +10,4 @@ pub mod Summing
 pub mod Greatest
 pub mod Normals
 pub mod Sums
+pub mod Totals

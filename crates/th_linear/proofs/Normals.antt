@@ -108,6 +108,23 @@ by_relation Ne f r g e h d =
     rw ((decides_divides g (unsigned_abs f.constant)).1 (whole_divides g f.constant r.constant whole))
     (ap Fact (form_is f r g (int_div f.constant (pos g)) h d.coefs d.rel (whole_div g f.constant r.constant h whole)))
 
+-- a fact with coprime coefficients stays
+scaled_one : (ts : List (ℕ × ℤ)) → ts ≡ scaled (pos 1) ts
+scaled_one [] = refl
+scaled_one (t ∷ ts) = λ i. (t.0, times_one t.1 i) ∷ scaled_one ts i
+  where
+    times_one : (z : ℤ) → z ≡ pos 1 *ℤ z
+    times_one z = omega (arith, ints)
+
+divides_once : (rel : Rel) (k : ℤ) → Divides rel 1 k k
+divides_once Le k = (omega (arith, ints), omega (arith, ints))
+divides_once Eq k = omega (arith, ints)
+divides_once Ne k = omega (arith, ints)
+
+pub undivided : (f : Form) (g : ℕ) → g ≡ 1 → IsContent g f.coefs → IsDivided f f g
+undivided f g e c =
+    rw e (record { content = rw e at c; coefs = scaled_one f.coefs; constant = divides_once f.rel f.constant; rel = refl })
+
 -- what stands for a fact with variables whose constant isn't divisible
 not_whole_Eq : (f : Form) (g : ℕ) → ((g ∣ unsigned_abs f.constant) → ⊥) → False ≡ divided_by Eq g f
 not_whole_Eq f g h = rw (false_from_ne_true (divides g (unsigned_abs f.constant)) (λ e. h ((decides_divides g (unsigned_abs f.constant)).0 e))) refl

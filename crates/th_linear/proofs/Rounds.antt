@@ -36,3 +36,7 @@ zero_test (negsuc n) f = ((λ t. absurd (let s = f.sfits in grind (arith, nat_te
 
 pub zero_bits : (z : ℤ) → FitsSigned w128 z → (of_z w128 z ≡ 0 → z ≡ pos 0) × (z ≡ pos 0 → of_z w128 z ≡ 0)
 zero_bits z f = let t = zero_test z f in ((λ e. t.0 (grind (arith, nat_tests, e))), (λ e. rw e refl))
+
+pub one_magnitude : (z : ℤ) → FitsSigned w128 z → pos 0 <ℤ z → of_z w128 z ≡ 1 → unsigned_abs z ≡ 1
+one_magnitude (pos n) f p e = omega (arith, ints, e)
+one_magnitude (negsuc n) f p e = absurd p.lt

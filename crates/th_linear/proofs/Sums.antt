@@ -52,7 +52,7 @@ value_added v c (t ∷ ts) s = elim (cases_order v t.0) [
     exchange : (a b x : ℤ) → a +ℤ (b +ℤ x) ≡ b +ℤ (a +ℤ x)
     exchange a b x = omega (arith, ints)
 
-value_summed : (ts us : List (ℕ × ℤ)) (s : ℕ → ℤ) → value (summed ts us) s ≡ value ts s +ℤ value us s
+pub value_summed : (ts us : List (ℕ × ℤ)) (s : ℕ → ℤ) → value (summed ts us) s ≡ value ts s +ℤ value us s
 value_summed [] us s = omega (arith, ints)
 value_summed (t ∷ ts) us s = value_added t.0 t.1 (summed ts us) s ∙ group (t.1 *ℤ s t.0) (value (summed ts us) s) (value ts s) (value us s) (value_summed ts us s)
   where
@@ -70,7 +70,7 @@ value_mixed p a q b s =
 
 -- ---- the sum as a fact
 
-clean_small : (low : ℕ) (ts : List (ℕ × ℤ)) → Clean low ts → all_small ts ≡ true → AreTerms low ts
+pub clean_small : (low : ℕ) (ts : List (ℕ × ℤ)) → Clean low ts → all_small ts ≡ true → AreTerms low ts
 clean_small low [] h k = tt
 clean_small low (t ∷ ts) h k =
     let parts = and_parts (is_small t.1) (all_small ts) k in

@@ -1,6 +1,7 @@
 -- Linear facts and what satisfies them.
-use Rattle.std.specs.Prelude.{◌≡◌, ◌≢◌, ℕ, ◌+◌, ◌<◌, ◌≤◌, ◌^◌, ℤ, pos, ◌+ℤ◌, ◌*ℤ◌, ◌≤ℤ◌, List, [], ◌∷◌, cond, eqb}
+use Rattle.std.specs.Prelude.{◌≡◌, ◌≢◌, ℕ, ◌+◌, ◌<◌, ◌≤◌, ℤ, pos, ◌+ℤ◌, ◌*ℤ◌, ◌≤ℤ◌, List, [], ◌∷◌, cond, eqb}
 use Rattle.std.specs.Int.RustNames.{unsigned_abs}
+use Rattle.th_linear.specs.declared.fact.TheConstants.{MAGNITUDE_LIMIT}
 use Rattle.th_linear.specs.declared.fact.Rel.{Rel}
 use Rattle.th_linear.specs.declared.fact.Rel.TheVariants.{Eq, Le, Ne}
 
@@ -26,7 +27,7 @@ Holds f s = Stands f.rel (value f.coefs s +ℤ f.constant)
 
 -- below 2^62 in magnitude
 abbrev pub Small : ℤ → Type 0
-Small z = unsigned_abs z < 2 ^ 62
+Small z = unsigned_abs z < MAGNITUDE_LIMIT
 
 -- variables ascend from `low` on, no coefficient is 0, and all are small
 abbrev pub AreTerms : ℕ → List (ℕ × ℤ) → Type 0

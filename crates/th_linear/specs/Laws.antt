@@ -1,10 +1,12 @@
 -- What the functions on facts keep: the statements of the laws.
-use Rattle.std.specs.Prelude.{◌≡◌, ◌↔◌, ◌≤ℤ◌, ◌*ℤ◌, ℕ, ℤ, pos, List, Some, None}
+use Rattle.std.specs.Prelude.{◌≡◌, ◌↔◌, ◌<◌, ◌≤ℤ◌, ◌*ℤ◌, ℕ, ℤ, pos, List, length, Some, None}
+use Rattle.std.specs.List.Sorted.{IsPermutation}
 use Rattle.th_linear.specs.Forms.{Form, IsForm, Holds, value, coef}
 use Rattle.th_linear.specs.Normal.{IsNormal, HoldsNormal, LeavesForm, scaled}
 use Rattle.th_linear.specs.Divided.{normal_of}
 use Rattle.th_linear.specs.Summed.{mixed_form, combined, substituted}
 use Rattle.th_linear.specs.Mixed.{IsMixed, IsTooLarge}
+use Rattle.th_linear.specs.Gathered.{IsGathered, IsTooLargeTotal, gathered_form, name_of, renamed_form}
 use Rattle.th_linear.specs.declared.fact.Rel.{Rel}
 use Rattle.th_linear.specs.declared.division.NormalForm.{NormalForm}
 use Rattle.th_linear.specs.declared.fact.Rel.TheVariants.{Eq, Le}
@@ -51,3 +53,27 @@ SubstitutionKeeps = (f : Form) (v : ℕ) (by r : Form) → IsFact f → IsFact b
 -- a fact without the variable stays
 abbrev pub AbsentStays : Type 0
 AbsentStays = (f : Form) (v : ℕ) (by : Form) → IsFact f → IsFact by → coef v f.coefs ≡ pos 0 → substituted f v by ≡ Some f
+
+-- terms in any order make the one fact with the summed coefficients, which `gathered_form` gives
+abbrev pub OneGathering : Type 0
+OneGathering = (terms : List (ℕ × ℤ)) (constant : ℤ) (rel : Rel) (r : Form)
+    → (IsFact r × IsGathered terms constant rel r) ↔ (gathered_form terms constant rel ≡ Some r)
+
+-- where a magnitude of it reaches 2^62 there is none
+abbrev pub NoLargeGathering : Type 0
+NoLargeGathering = (terms : List (ℕ × ℤ)) (constant : ℤ) (rel : Rel) → IsTooLargeTotal terms constant → gathered_form terms constant rel ≡ None
+
+-- and their order doesn't count
+abbrev pub OrderIsFree : Type 0
+OrderIsFree = (terms others : List (ℕ × ℤ)) (constant : ℤ) (rel : Rel) → IsPermutation terms others
+    → gathered_form terms constant rel ≡ gathered_form others constant rel
+
+-- s satisfies a renamed fact exactly where s after the names satisfies the fact
+abbrev pub RenamingComposes : Type 0
+RenamingComposes = (names : List ℕ) (f r : Form) → IsFact f → renamed_form names f ≡ Some r → IsFact r × (r.rel ≡ f.rel)
+    × ((s : ℕ → ℤ) → value r.coefs s ≡ value f.coefs (λ v. s (name_of names v)))
+    × ((s : ℕ → ℤ) → Holds r s ↔ Holds f (λ v. s (name_of names v)))
+
+-- a fact stays where each variable of the list keeps its name
+abbrev pub SameNamesStay : Type 0
+SameNamesStay = (names : List ℕ) (f : Form) → IsFact f → ((v : ℕ) → v < length names → name_of names v ≡ v) → renamed_form names f ≡ Some f

@@ -3,4 +3,5 @@ pub mod Normal
 pub mod Divided
 pub mod Mixed
 pub mod Summed
+pub mod Gathered
 pub mod Laws

@@ -1,10 +1,11 @@
 -- Sums of multiples of two facts, as functions.
-use Rattle.std.specs.Prelude.{ℕ, ◌^◌, ◌==◌, nat_lt, Bool, true, cond, ◌&&◌, ℤ, pos, neg_ℤ, ◌+ℤ◌, ◌*ℤ◌, List, [], ◌∷◌, Option, Some, None}
+use Rattle.std.specs.Prelude.{ℕ, ◌==◌, nat_lt, Bool, true, cond, ◌&&◌, ℤ, pos, neg_ℤ, ◌+ℤ◌, ◌*ℤ◌, List, [], ◌∷◌, Option, Some, None}
 use Rattle.std.specs.Int.RustNames.{unsigned_abs}
 use Rattle.std.specs.Ordering.{int_eq}
 use Rattle.th_linear.specs.Forms.{Form, coef}
 use Rattle.th_linear.specs.Normal.{scaled}
 use Rattle.th_linear.specs.Mixed.{mixed}
+use Rattle.th_linear.specs.declared.fact.TheConstants.{MAGNITUDE_LIMIT}
 use Rattle.th_linear.specs.declared.fact.Rel.{Rel}
 use Rattle.th_linear.specs.declared.fact.Rel.TheVariants.{Le}
 
@@ -28,7 +29,7 @@ mixed_terms p a q b = summed (scaled p a) (summed (scaled q b) [])
 
 -- below 2^62 in magnitude
 abbrev pub is_small : ℤ → Bool
-is_small z = nat_lt (unsigned_abs z) (2 ^ 62)
+is_small z = nat_lt (unsigned_abs z) MAGNITUDE_LIMIT
 
 -- each coefficient is below 2^62 in magnitude
 abbrev pub all_small : List (ℕ × ℤ) → Bool

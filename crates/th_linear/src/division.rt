@@ -29,11 +29,12 @@ pub fn normal(f: Lin) -> NormalForm
     ensures value { result ≡ normal_of f }
     ensures keeps { (s : ℕ → ℤ) → Holds f s ↔ HoldsNormal result s }
 {
+    // For the proof alone: the form of the fact.
     let _terms = &f.coefs;
     normal_form(f)
 }
 
-/// The normal form of a fact.
+// The normal form of a fact.
 fn normal_form(f: Lin) -> NormalForm
     ensures { IsNormal f result }
 {
@@ -45,6 +46,9 @@ fn normal_form(f: Lin) -> NormalForm
         };
     }
     let g = positive_content(f.coefs.as_slice());
+    if g == 1 {
+        return NormalForm::Fact(f);
+    }
     match f.rel {
         Rel::Le => NormalForm::Fact(divided(f, g)),
         Rel::Eq => {
@@ -64,7 +68,7 @@ fn normal_form(f: Lin) -> NormalForm
     }
 }
 
-/// The fact divided by g, the greatest common divisor of its coefficients.
+// The fact divided by g, the greatest common divisor of its coefficients.
 fn divided(f: Lin, g: i128) -> Lin
     requires positive { pos 0 <ℤ g }
     requires content { IsContent (unsigned_abs g) f.coefs }
@@ -84,7 +88,7 @@ fn divided(f: Lin, g: i128) -> Lin
     }
 }
 
-/// Divides each coefficient.
+// Divides each coefficient.
 fn divide(coefs: &mut Vec<(u32, i128)>, g: i128)
     requires positive { pos 0 <ℤ g }
     requires divides { DividesAll (unsigned_abs g) coefs.old.items }
@@ -95,7 +99,7 @@ fn divide(coefs: &mut Vec<(u32, i128)>, g: i128)
     }
 }
 
-/// The constant divided by g, rounded up for `Le`.
+// The constant divided by g, rounded up for `Le`.
 fn divided_constant(rel: Rel, constant: i128, g: i128) -> i128
     requires positive { pos 0 <ℤ g }
     requires small { Small constant }
@@ -110,7 +114,7 @@ fn divided_constant(rel: Rel, constant: i128, g: i128) -> i128
     }
 }
 
-/// k / g, rounded up.
+// k / g, rounded up.
 fn divided_up(k: i128, g: i128) -> i128
     requires positive { pos 0 <ℤ g }
     ensures { Divides Rel.Le (unsigned_abs g) k result }
@@ -119,7 +123,7 @@ fn divided_up(k: i128, g: i128) -> i128
     if k % g > 0 { quotient + 1 } else { quotient }
 }
 
-/// z / g, which is whole.
+// z / g, which is whole.
 fn exact_quotient(z: i128, g: i128) -> i128
     requires positive { pos 0 <ℤ g }
     requires divides { unsigned_abs g ∣ unsigned_abs z }
@@ -128,7 +132,7 @@ fn exact_quotient(z: i128, g: i128) -> i128
     z / g
 }
 
-/// Whether g divides k.
+// Whether g divides k.
 fn is_multiple(k: i128, g: i128) -> bool
     requires positive { pos 0 <ℤ g }
     ensures { IsTrue result ↔ (unsigned_abs g ∣ unsigned_abs k) }

@@ -14,7 +14,7 @@ pub fn gcd(a: u128, b: u128) -> u128
     euclid(a, b)
 }
 
-/// Euclid's algorithm.
+// Euclid's algorithm.
 fn euclid(a: u128, b: u128) -> u128
     ensures { IsGcd a b result }
 {
@@ -28,7 +28,7 @@ fn euclid(a: u128, b: u128) -> u128
     x
 }
 
-/// The greatest common divisor of the coefficients.
+// The greatest common divisor of the coefficients.
 fn content(coefs: &[(u32, i128)]) -> u128
     ensures { IsContent result coefs.now }
 {
@@ -42,7 +42,7 @@ fn content(coefs: &[(u32, i128)]) -> u128
     g
 }
 
-/// The greatest common divisor of the coefficients of a fact with variables.
+// The greatest common divisor of the coefficients of a fact with variables.
 pub(crate) fn positive_content(coefs: &[(u32, i128)]) -> i128
     requires some { coefs.now ≢ [] }
     requires terms { AreTerms 0 coefs.now }

@@ -2,11 +2,16 @@
 ghost use Rattle.std.specs.Prelude.{◌≡◌, ◌↔◌, ◌<◌, ◌≤◌, IfOk, IfSome, IsSome, IsTrue};
 ghost use Rattle.std.specs.Int.RustNames.{unsigned_abs};
 ghost use Rattle.th_linear.specs.Forms.{AreTerms, IsForm, Small, Stands, coef};
+ghost use Rattle.th_linear.specs.Gathered.{AreSmall, Gathers, Renames, gathered_form, renamed_form};
 
+use crate::gathering::{gather, rename};
 use std::alloc::{AllocError, Global};
 use std::marker::Model;
 
-/// How a sum stands to 0: it is 0, at most 0, or not 0.
+/// All magnitudes of a fact are below this.
+pub const MAGNITUDE_LIMIT: u128 = 1 << 62;
+
+//// How a sum stands to 0: it is 0, at most 0, or not 0.
 #[derive(Clone, Copy, Debug, PartialEq, Eq)]
 pub enum Rel {
     /// The sum is 0.
@@ -58,6 +63,27 @@ impl Lin {
         }
     }
 
+    /// The fact of terms in any order: those of one variable are added up, and none with coefficient
+    /// 0 is left. `None` exactly where a magnitude of it reaches 2^62. Takes no memory.
+    pub fn from_terms(terms: Vec<(u32, i128)>, constant: i128, rel: Rel) -> Option<Lin>
+        requires { AreSmall terms.items }
+        ensures exact { Gathers terms.items constant rel result }
+        ensures value { result ≡ gathered_form terms.items constant rel }
+    {
+        Lin::new(gather(terms), constant, rel)
+    }
+
+    /// The fact with each variable named as the list says at its place; a variable past the list keeps
+    /// its own name. Variables that get one name become one. `None` exactly where a magnitude of the
+    /// result reaches 2^62.
+    pub fn renamed(&self, alloc: Global, names: &[u32]) -> Result<Option<Lin>, AllocError>
+        ensures exact { IfOk result (Renames names.now self.now) }
+        ensures value { IfOk result (λ o. o ≡ renamed_form names.now self.now) }
+    {
+        let terms = rename(alloc, self.coefs.as_slice(), names)?;
+        Ok(Lin::from_terms(terms, self.constant, self.rel))
+    }
+
     /// The coefficient of a variable: 0 where the variable doesn't stand in the fact.
     pub fn coefficient(&self, variable: u32) -> i128
         ensures value { result ≡ coef variable self.now.coefs }
@@ -88,7 +114,7 @@ impl Lin {
     }
 }
 
-/// Whether the variables ascend, no coefficient is 0, and all are below 2^62 in magnitude.
+// Whether the variables ascend, no coefficient is 0, and all are below 2^62 in magnitude.
 fn are_terms(terms: &[(u32, i128)]) -> bool
     ensures { IsTrue result ↔ AreTerms 0 terms.now }
 {
@@ -102,21 +128,21 @@ fn are_terms(terms: &[(u32, i128)]) -> bool
     true
 }
 
-/// Whether a term may stand next: its variable is `low` or more, its coefficient small and not 0.
+// Whether a term may stand next: its variable is `low` or more, its coefficient small and not 0.
 fn follows(low: u64, term: (u32, i128)) -> bool
     ensures { IsTrue result ↔ ((low ≤ term.0) × (0 < unsigned_abs term.1) × Small term.1) }
 {
     low <= u64::from(term.0) && term.1 != 0 && is_small(term.1)
 }
 
-/// Whether z is below 2^62 in magnitude.
+// Whether z is below 2^62 in magnitude.
 pub(crate) fn is_small(z: i128) -> bool
     ensures { IsTrue result ↔ Small z }
 {
-    z.unsigned_abs() < 1 << 62
+    z.unsigned_abs() < MAGNITUDE_LIMIT
 }
 
-/// The coefficient of a variable in a list of terms.
+// The coefficient of a variable in a list of terms.
 fn coefficient(terms: &[(u32, i128)], variable: u32) -> i128
     ensures { result ≡ coef variable terms.now }
 {
@@ -128,7 +154,7 @@ fn coefficient(terms: &[(u32, i128)], variable: u32) -> i128
     0
 }
 
-/// Whether the two lists of terms are equal.
+// Whether the two lists of terms are equal.
 fn same_terms(left: &[(u32, i128)], right: &[(u32, i128)]) -> bool
     ensures { IsTrue result ↔ (left.now ≡ right.now) }
 {
@@ -143,21 +169,21 @@ fn same_terms(left: &[(u32, i128)], right: &[(u32, i128)]) -> bool
     true
 }
 
-/// Whether the two terms are equal.
+// Whether the two terms are equal.
 fn same_term(left: (u32, i128), right: (u32, i128)) -> bool
     ensures { IsTrue result ↔ (left ≡ right) }
 {
     left.0 == right.0 && left.1 == right.1
 }
 
-/// Whether the two relations are equal.
+// Whether the two relations are equal.
 fn same_relation(left: Rel, right: Rel) -> bool
     ensures { IsTrue result ↔ (left ≡ right) }
 {
     left == right
 }
 
-/// Whether z stands in the relation to 0.
+// Whether z stands in the relation to 0.
 pub(crate) fn stands(rel: Rel, z: i128) -> bool
     ensures { IsTrue result ↔ Stands rel z }
 {

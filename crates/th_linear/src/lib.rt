@@ -6,13 +6,15 @@
 //! its arguments and keeps, or follows from, what the facts say; the layer above uses both.
 //!
 //! Facts and what satisfies them stand in `specs/Forms.antt`, division in `specs/Normal.antt` and
-//! `specs/Divided.antt`, sums of multiples in `specs/Mixed.antt` and `specs/Summed.antt`. The laws
-//! in `laws` say that these definitions agree, and that each determines one result.
+//! `specs/Divided.antt`, sums of multiples in `specs/Mixed.antt` and `specs/Summed.antt`, terms in any
+//! order and new names of variables in `specs/Gathered.antt`. The laws in `laws` say that these
+//! definitions agree, and that each determines one result.
 #![tactic(auto)]
 
 mod division;
 mod divisor;
 mod fact;
+mod gathering;
 pub mod laws;
 mod mixture;
 #[cfg(test)]
@@ -20,5 +22,5 @@ mod tests;
 
 pub use division::{NormalForm, normal};
 pub use divisor::gcd;
-pub use fact::{Lin, Rel};
+pub use fact::{Lin, MAGNITUDE_LIMIT, Rel};
 pub use mixture::{combine, substitute};

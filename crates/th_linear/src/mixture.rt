@@ -7,7 +7,7 @@ ghost use Rattle.th_linear.specs.Mixed.{mixed, IsSum, FollowsFrom, SaySame, Step
 ghost use Rattle.th_linear.specs.Summed.{mixed_form, combined, substituted};
 
 use crate::fact::is_small;
-use crate::{Lin, Rel};
+use crate::{Lin, MAGNITUDE_LIMIT, Rel};
 use std::alloc::{AllocError, Global};
 
 /// The inequality p a + q b, or `None` exactly where a magnitude of it reaches 2^62.
@@ -15,9 +15,9 @@ pub fn combine(alloc: Global, a: &Lin, p: i128, b: &Lin, q: i128) -> Result<Opti
     requires a { a.now.rel ≡ Rel.Le }
     requires b { b.now.rel ≡ Rel.Le }
     requires p_low { pos 0 <ℤ p }
-    requires p_high { unsigned_abs p ≤ 2 ^ 62 }
+    requires p_high { unsigned_abs p ≤ MAGNITUDE_LIMIT }
     requires q_low { pos 0 <ℤ q }
-    requires q_high { unsigned_abs q ≤ 2 ^ 62 }
+    requires q_high { unsigned_abs q ≤ MAGNITUDE_LIMIT }
     ensures exact { IfOk result (IsSum p a.now q b.now Rel.Le) }
     ensures value { IfOk result (λ o. o ≡ combined a.now p b.now q) }
     ensures follows { IfOk result (λ o. IfSome o (FollowsFrom a.now b.now)) }
@@ -46,20 +46,20 @@ pub fn substitute(
     mix_facts(alloc, 1, f, m, by)
 }
 
-/// -c d, where d is 1 or -1.
+// -c d, where d is 1 or -1.
 fn multiplier(c: i128, d: i128) -> i128
     requires small { Small c }
     requires unit { unsigned_abs d ≡ 1 }
     ensures value { result ≡ neg_ℤ (c *ℤ d) }
-    ensures bound { unsigned_abs result ≤ 2 ^ 62 }
+    ensures bound { unsigned_abs result ≤ MAGNITUDE_LIMIT }
 {
     if d == 1 { -c } else { c }
 }
 
-/// p a + q b with the relation of a, or `None` where a magnitude reaches 2^62.
+// p a + q b with the relation of a, or `None` where a magnitude reaches 2^62.
 fn mix_facts(alloc: Global, p: i128, a: &Lin, q: i128, b: &Lin) -> Result<Option<Lin>, AllocError>
-    requires p { unsigned_abs p ≤ 2 ^ 62 }
-    requires q { unsigned_abs q ≤ 2 ^ 62 }
+    requires p { unsigned_abs p ≤ MAGNITUDE_LIMIT }
+    requires q { unsigned_abs q ≤ MAGNITUDE_LIMIT }
     ensures exact { IfOk result (IsSum p a.now q b.now a.now.rel) }
     ensures value { IfOk result (λ o. o ≡ mixed_form p a.now q b.now a.now.rel) }
 {
@@ -77,7 +77,7 @@ fn mix_facts(alloc: Global, p: i128, a: &Lin, q: i128, b: &Lin) -> Result<Option
     }
 }
 
-/// The terms of p left + q right, or `None` where a coefficient reaches 2^62.
+// The terms of p left + q right, or `None` where a coefficient reaches 2^62.
 fn mix_terms(
     alloc: Global,
     p: i128,
@@ -85,14 +85,14 @@ fn mix_terms(
     q: i128,
     right: &[(u32, i128)],
 ) -> Result<Option<Vec<(u32, i128)>>, AllocError>
-    requires p { unsigned_abs p ≤ 2 ^ 62 }
+    requires p { unsigned_abs p ≤ MAGNITUDE_LIMIT }
     requires left { AreTerms 0 left.now }
-    requires q { unsigned_abs q ≤ 2 ^ 62 }
+    requires q { unsigned_abs q ≤ MAGNITUDE_LIMIT }
     requires right { AreTerms 0 right.now }
     ensures { IfOk result (λ o. MatchOption o (HasLarge p left.now q right.now)
         (λ v. AreMixed p left.now q right.now v.items)) }
 {
-    let mut out = Vec::new(alloc);
+    let mut out = Vec::with_capacity(alloc, left.len() + right.len())?;
     let mut a = left;
     let mut b = right;
     while let Some(next) = next_step(p, a, q, b) {
@@ -108,7 +108,7 @@ fn mix_terms(
     Ok(Some(out))
 }
 
-/// The least variable of two lists of terms, its coefficient in the sum, and what is left of both.
+// The least variable of two lists of terms, its coefficient in the sum, and what is left of both.
 #[derive(Drop)]
 struct Step<'a> {
     variable: u32,
@@ -117,16 +117,16 @@ struct Step<'a> {
     right: &'a [(u32, i128)],
 }
 
-/// The least variable of p left + q right, or `None` where there is no term.
+// The least variable of p left + q right, or `None` where there is no term.
 fn next_step<'a>(
     p: i128,
     left: &'a [(u32, i128)],
     q: i128,
     right: &'a [(u32, i128)],
 ) -> Option<Step<'a>>
-    requires p { unsigned_abs p ≤ 2 ^ 62 }
+    requires p { unsigned_abs p ≤ MAGNITUDE_LIMIT }
     requires left { AreTerms 0 left.now }
-    requires q { unsigned_abs q ≤ 2 ^ 62 }
+    requires q { unsigned_abs q ≤ MAGNITUDE_LIMIT }
     requires right { AreTerms 0 right.now }
     ensures { MatchOption result ((left.now ≡ []) × (right.now ≡ []))
         (λ r. Steps p left.now q right.now r.variable r.coefficient r.left.now r.right.now) }
@@ -172,11 +172,11 @@ fn next_step<'a>(
     }
 }
 
-/// p x + q y
+// p x + q y
 fn mix(p: i128, x: i128, q: i128, y: i128) -> i128
-    requires p { unsigned_abs p ≤ 2 ^ 62 }
+    requires p { unsigned_abs p ≤ MAGNITUDE_LIMIT }
     requires x { Small x }
-    requires q { unsigned_abs q ≤ 2 ^ 62 }
+    requires q { unsigned_abs q ≤ MAGNITUDE_LIMIT }
     requires y { Small y }
     ensures { result ≡ mixed p x q y }
 {

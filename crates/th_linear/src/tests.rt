@@ -1,5 +1,6 @@
 // Facts with known results: what goes in, and what must come out.
 ghost use Rattle.std.specs.Prelude.{◌≡◌, IfOk};
+ghost use Rattle.th_linear.specs.Gathered.{AreSmall};
 
 use crate::{Lin, NormalForm, Rel, combine, gcd, normal, substitute};
 use std::alloc::{AllocError, Global};
@@ -8,7 +9,7 @@ use std::test::Fail;
 
 type Terms<'a> = &'a [(u32, i128)];
 
-/// What is expected of a fact that a step makes.
+// What is expected of a fact that a step makes.
 #[derive(Clone, Copy, Debug)]
 enum Want<'a> {
     True,
@@ -193,6 +194,87 @@ fn an_equation_takes_its_variable_out(rt: HostRuntime) -> Result<(), Fail> {
         Rel::Le,
         Want::Fact(&[(2, 4294967296)], 1),
     );
+    Ok(())
+}
+
+fn gathered(
+    rt: &impl Abort,
+    alloc: Global,
+    terms: Terms,
+    constant: i128,
+    want: Want,
+) -> Result<(), AllocError>
+    requires { AreSmall terms.now }
+{
+    let made_of = Vec::from_slice(alloc, terms)?;
+    made(
+        rt,
+        Lin::from_terms(made_of, constant, Rel::Le),
+        Rel::Le,
+        want,
+    );
+    Ok(())
+}
+
+#[test]
+fn terms_in_any_order_are_added_up(rt: HostRuntime) -> Result<(), Fail> {
+    let a = rt.alloc();
+    let far = HIGH - 1;
+    gathered(&rt, a, &[], 7, Want::Fact(&[], 7))?;
+    gathered(
+        &rt,
+        a,
+        &[(2, 1), (0, 1), (2, 1)],
+        0,
+        Want::Fact(&[(0, 1), (2, 2)], 0),
+    )?;
+    gathered(
+        &rt,
+        a,
+        &[(3, 2), (1, 5), (3, -2)],
+        7,
+        Want::Fact(&[(1, 5)], 7),
+    )?;
+    // 2^62 at the end is too large, on the way it isn't
+    gathered(&rt, a, &[(0, HALF), (1, 1), (0, HALF)], 0, Want::None)?;
+    gathered(
+        &rt,
+        a,
+        &[(0, far), (1, 1), (0, far), (0, -far)],
+        0,
+        Want::Fact(&[(0, far), (1, 1)], 0),
+    )?;
+    gathered(&rt, a, &[(0, 1)], HIGH, Want::None)?;
+    Ok(())
+}
+
+#[test]
+fn variables_get_new_names(rt: HostRuntime) -> Result<(), Fail> {
+    let a = rt.alloc();
+    // v - x + 5 y = 3
+    let f = fact(&rt, a, &[(0, 1), (1, -1), (4, 5)], -3, Rel::Eq)?;
+    let eq = Rel::Eq;
+    made(
+        &rt,
+        f.renamed(a, &[])?,
+        eq,
+        Want::Fact(&[(0, 1), (1, -1), (4, 5)], -3),
+    );
+    made(
+        &rt,
+        f.renamed(a, &[7, 3])?,
+        eq,
+        Want::Fact(&[(3, -1), (4, 5), (7, 1)], -3),
+    );
+    made(&rt, f.renamed(a, &[2, 2])?, eq, Want::Fact(&[(4, 5)], -3));
+    made(
+        &rt,
+        f.renamed(a, &[0, 4, 0, 0])?,
+        eq,
+        Want::Fact(&[(0, 1), (4, 4)], -3),
+    );
+    let two = fact(&rt, a, &[(0, HALF), (1, HALF)], 0, Rel::Eq)?;
+    made(&rt, two.renamed(a, &[1])?, eq, Want::None);
     Ok(())
 }
 

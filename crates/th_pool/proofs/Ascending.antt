@@ -8,9 +8,9 @@ use Rattle.std.proofs.lemmas.List.{drop-drop}
 use Rattle.th_syntax.specs.declared.refusal.Flaw.{Flaw}
 use Rattle.th_syntax.specs.Forms.{Form, whole, ◌>>=◌, Placed, Found, number_of, read}
 use Rattle.th_syntax.specs.ClassBytes.{Entry, Pool, number, u1, u2, demand, content, entry, slot, slots, takes_two, pool}
-use Rattle.th_syntax.specs.PoolChecks.{ascend_from, refers_well, entry_flaw, entry_flaws}
-use Rattle.th_syntax.specs.FirstFlaw.{NotBehind, IsFirst}
-use Rattle.th_syntax.specs.Reading.{read_behind, read_split, read_whole, read_demand, read_refusal}
+use Rattle.th_syntax.specs.PoolChecks.{entries_ascend, refers_well, entry_flaw, entry_flaws}
+use Rattle.th_syntax.specs.Flaws.{NotBehind, IsFirst}
+use Rattle.th_syntax.proofs.ReadingParts.{read_behind, read_split, read_whole, read_demand, read_refusal}
 use Rattle.th_pool.proofs.Entries.{allows, with_tag, behind_tag}
 use Rattle.th_pool.proofs.Loop.{rest_of, counted, behind_count}
 
@@ -45,11 +45,11 @@ demand_found {B = B} false place refusal g at bytes found e =
     absurd (let never : (let r : Result (Found B) Flaw = Err (record { number = refusal; offset = place }) in r) ≡ Ok found = sym (read_refusal false place refusal g at bytes refl) ∙ e in cc)
 
 -- slots that ascend from an offset ascend from a lower one
-ascend_earlier : (low at : ℕ) (slots : Pool) → low ≤ at → ascend_from at slots ≡ true → ascend_from low slots ≡ true
+ascend_earlier : (low at : ℕ) (slots : Pool) → low ≤ at → entries_ascend at slots ≡ true → entries_ascend low slots ≡ true
 ascend_earlier low at [] le up = refl
 ascend_earlier low at (None ∷ slots) le up = ascend_earlier low at slots le up
 ascend_earlier low at (Some e ∷ slots) le up =
-    let two = both (nat_le at e.at) (ascend_from (e.at + 1) slots) up in
+    let two = both (nat_le at e.at) (entries_ascend (e.at + 1) slots) up in
     let here : at ≤ e.at = leb-true _ _ two.0 in
     let test : leb low e.at ≡ true = le-leb _ _ (omega arith) in
     rw test two.1
@@ -72,11 +72,11 @@ entry_place left at bytes found e =
     (from ∙ tag.0, omega arith)
 
 -- what an index leads to stands where the reading stood
-slot_place : (second : Bool) (left at : ℕ) (bytes : List ℕ) (found : Found (Option (Placed Entry))) (others : Pool) → read (slot second left) at bytes ≡ Ok found → ascend_from found.1 others ≡ true → ascend_from at (found.0 ∷ others) ≡ true
+slot_place : (second : Bool) (left at : ℕ) (bytes : List ℕ) (found : Found (Option (Placed Entry))) (others : Pool) → read (slot second left) at bytes ≡ Ok found → entries_ascend found.1 others ≡ true → entries_ascend at (found.0 ∷ others) ≡ true
 unfolding slot
 slot_place true left at bytes found others e up =
     let last = whole_found None at bytes found e in
-    rw last.0 (ap (λ (k : ℕ). ascend_from k others) (sym last.1) ∙ up)
+    rw last.0 (ap (λ (k : ℕ). entries_ascend k others) (sym last.1) ∙ up)
 slot_place false left at bytes found others e up =
     let one = read_split (entry left) (λ x. whole (Some x)) at bytes found e in
     let place = entry_place left at bytes one.0 one.1 in
@@ -88,7 +88,7 @@ slot_place false left at bytes found others e up =
     rw (last.0, test) (ascend_earlier (one.0.0.at + 1) found.1 others room up)
 
 -- the indices of a pool, and the pool
-pub slots_ascend : (second : Bool) (left at : ℕ) (bytes : List ℕ) (found : Found Pool) → read (slots second left) at bytes ≡ Ok found → ascend_from at found.0 ≡ true
+pub slots_ascend : (second : Bool) (left at : ℕ) (bytes : List ℕ) (found : Found Pool) → read (slots second left) at bytes ≡ Ok found → entries_ascend at found.0 ≡ true
 unfolding slots
 slots_ascend second zero at bytes found e = rw (whole_found [] at bytes found e).0 refl
 slots_ascend second (suc left) at bytes found e =
@@ -98,7 +98,7 @@ slots_ascend second (suc left) at bytes found e =
     let last = whole_found made two.0.1 two.0.2 found two.2 in
     rw last.0 (slot_place second left at bytes one.0 two.0.0 one.1 (slots_ascend (takes_two one.0.0) left one.0.1 one.0.2 two.0 two.1))
 
-pub pool_ascends : (at : ℕ) (bytes : List ℕ) (found : Found Pool) → read pool at bytes ≡ Ok found → ascend_from 0 found.0 ≡ true
+pub pool_ascends : (at : ℕ) (bytes : List ℕ) (found : Found Pool) → read pool at bytes ≡ Ok found → entries_ascend 0 found.0 ≡ true
 unfolding pool
 pool_ascends at bytes found e =
     let one = read_split u2 counted at bytes found e in
@@ -121,11 +121,11 @@ all_later at low le [] all = tt
 all_later at low le (f ∷ flaws) all = ((let h : at ≤ f.offset = all.0 in omega arith), all_later at low le flaws all.1)
 
 -- the flaws of ascending entries stand at this offset or later
-all_behind : (test : Pool) (at : ℕ) (slots : Pool) → ascend_from at slots ≡ true → AllByRecursion (λ f. at ≤ f.offset) (filter_map (entry_flaw test) slots)
+all_behind : (test : Pool) (at : ℕ) (slots : Pool) → entries_ascend at slots ≡ true → AllByRecursion (λ f. at ≤ f.offset) (filter_map (entry_flaw test) slots)
 all_behind test at [] up = tt
 all_behind test at (None ∷ slots) up = all_behind test at slots up
 all_behind test at (Some e ∷ slots) up =
-    let two = both (nat_le at e.at) (ascend_from (e.at + 1) slots) up in
+    let two = both (nat_le at e.at) (entries_ascend (e.at + 1) slots) up in
     let here : at ≤ e.at = leb-true _ _ two.0 in
     one_flaw e.at (refers_well test e.value) (λ f. at ≤ f.offset) here (filter_map (entry_flaw test) slots) (all_later (e.at + 1) at (omega arith) (filter_map (entry_flaw test) slots) (all_behind test (e.at + 1) slots two.1))
 
@@ -145,14 +145,14 @@ first_or_later false at rest flaw others behind later e =
     subst (AllByRecursion (NotBehind flaw)) same (all_above (at + 1) flaw (omega arith) rest behind)
 
 -- the flaw that is first in the order of the entries comes before the others
-pub others_behind : (test : Pool) (at : ℕ) (slots : Pool) (flaw : Flaw) (others : List Flaw) → ascend_from at slots ≡ true → filter_map (entry_flaw test) slots ≡ flaw ∷ others → AllByRecursion (NotBehind flaw) others
+pub others_behind : (test : Pool) (at : ℕ) (slots : Pool) (flaw : Flaw) (others : List Flaw) → entries_ascend at slots ≡ true → filter_map (entry_flaw test) slots ≡ flaw ∷ others → AllByRecursion (NotBehind flaw) others
 others_behind test at [] flaw others up e = absurd cc
 others_behind test at (None ∷ slots) flaw others up e = others_behind test at slots flaw others up e
 others_behind test at (Some p ∷ slots) flaw others up e =
-    let two = both (nat_le at p.at) (ascend_from (p.at + 1) slots) up in
+    let two = both (nat_le at p.at) (entries_ascend (p.at + 1) slots) up in
     first_or_later (refers_well test p.value) p.at (filter_map (entry_flaw test) slots) flaw others (all_behind test (p.at + 1) slots two.1) (λ is. others_behind test (p.at + 1) slots flaw others two.1 is) e
 
-pub is_first : (pool : Pool) (flaw : Flaw) (others : List Flaw) → ascend_from 0 pool ≡ true → entry_flaws pool ≡ flaw ∷ others → IsFirst (entry_flaws pool) flaw
+pub is_first : (pool : Pool) (flaw : Flaw) (others : List Flaw) → entries_ascend 0 pool ≡ true → entry_flaws pool ≡ flaw ∷ others → IsFirst (entry_flaws pool) flaw
 unfolding entry_flaws
 is_first pool flaw others up e =
     let here : IsFirst (flaw ∷ others) flaw = record { found = (0, omega arith, refl); least = (inr (refl, omega arith), others_behind pool 0 pool flaw others up e) } in

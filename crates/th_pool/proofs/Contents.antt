@@ -6,7 +6,7 @@ use Rattle.std.proofs.lemmas.Bool.Decides.{nat_tests}
 use Rattle.th_syntax.specs.declared.refusal.Flaw.{Flaw}
 use Rattle.th_syntax.specs.Forms.{Form, whole, ◌>>=◌, Placed, Found, read}
 use Rattle.th_syntax.specs.ClassBytes.{utf8, integer, float, long, double, class, string, field, method, interface_method, name_and_type, method_handle, method_type, invoke_dynamic, u2, u4, text, handle, two_indices, two_words, content, is_tag}
-use Rattle.th_syntax.specs.Reading.{read_after, read_stops, read_whole}
+use Rattle.th_syntax.proofs.ReadingParts.{read_after, read_stops, read_whole}
 
 -- one part, and the entry that it makes
 one_part : {A B : Type 0} (f : Form A) (make : A → B) (at : ℕ) (bytes : List ℕ) (found : Found A) → read f at bytes ≡ Ok found → read (f >>= λ x. whole (make x)) at bytes ≡ Ok (make found.0, found.1, found.2)

@@ -4,7 +4,7 @@ use Rattle.std.specs.Prelude.{Option, Some, None, ◌==◌}
 use Rattle.th_syntax.specs.declared.refusal.Flaw.{Flaw}
 use Rattle.th_syntax.specs.Forms.{Form, whole, ◌>>=◌, Placed, read}
 use Rattle.th_syntax.specs.ClassBytes.{Entry, demand, u1, is_tag, is_wide, content, entry, slot}
-use Rattle.th_syntax.specs.Reading.{read_after, read_stops, read_whole, read_demand, read_refusal}
+use Rattle.th_syntax.proofs.ReadingParts.{read_after, read_stops, read_whole, read_demand, read_refusal}
 
 -- whether an entry of this tag may stand before so many indices
 abbrev pub allows : ℕ → ℕ → Bool

@@ -6,7 +6,7 @@ use Rattle.std.proofs.lemmas.List.{append-nil}
 use Rattle.th_syntax.specs.declared.refusal.Flaw.{Flaw}
 use Rattle.th_syntax.specs.Forms.{Form, whole, ◌>>=◌, Placed, Found, read}
 use Rattle.th_syntax.specs.ClassBytes.{Entry, Pool, slot, slots, takes_two, u2, demand, pool}
-use Rattle.th_syntax.specs.Reading.{read_after, read_stops, read_whole, read_demand, read_refusal}
+use Rattle.th_syntax.proofs.ReadingParts.{read_after, read_stops, read_whole, read_demand, read_refusal}
 use Rattle.th_pool.specs.Gives.{with_front}
 
 abbrev pub Slot : Type 0

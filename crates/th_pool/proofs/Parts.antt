@@ -3,7 +3,7 @@ use Rattle.std.proofs.Common.{◌≡◌, ℕ, List, Ok, Err, ◌∙◌}
 use Rattle.th_syntax.specs.declared.refusal.Flaw.{Flaw}
 use Rattle.th_syntax.specs.Forms.{Form, whole, ◌>>=◌, Placed, Found, read}
 use Rattle.th_syntax.specs.ClassBytes.{u1, u2, u4, run, text, handle, two_indices, two_words}
-use Rattle.th_syntax.specs.Reading.{read_after, read_stops, read_whole}
+use Rattle.th_syntax.proofs.ReadingParts.{read_after, read_stops, read_whole}
 
 two_parts : {A B C : Type 0} (f : Form A) (g : Form B) (make : A → B → C) (at : ℕ) (bytes : List ℕ) (x : Found A) (y : Found B) → read f at bytes ≡ Ok x → read g x.1 x.2 ≡ Ok y → read (f >>= λ a. g >>= λ b. whole (make a b)) at bytes ≡ Ok (make x.0 y.0, y.1, y.2)
 two_parts f g make at bytes x y first second =

@@ -4,7 +4,7 @@ ghost use Rattle.std.specs.Option.{option_copied};
 ghost use Rattle.th_syntax.specs.Forms.{Stands, IsFlawed, read};
 ghost use Rattle.th_syntax.specs.ClassBytes as file;
 ghost use Rattle.th_syntax.specs.PoolChecks as checks;
-ghost use Rattle.th_syntax.specs.FirstFlaw.{IsFirst};
+ghost use Rattle.th_syntax.specs.Flaws.{IsFirst};
 ghost use Rattle.th_pool.specs.Gives.{Answers, IfRefused, end_at};
 ghost use Rattle.th_pool.specs.PoolView.{member_view};
 
@@ -29,13 +29,13 @@ impl<'a> Model for Pool<'a> {
     ghost use Rattle.std.specs.Prelude.{IsTrue};
     ghost use Rattle.th_pool.specs.PoolView.{slots_view};
     ghost use Rattle.th_syntax.specs.ClassBytes as file;
-    ghost use Rattle.th_syntax.specs.PoolChecks.{ascend_from};
+    ghost use Rattle.th_syntax.specs.PoolChecks.{entries_ascend};
 
     ghost Value = { file.Pool };
 
     ghost view = { λ p. slots_view p.slots.items };
 
-    ghost invariant = { λ p. IsTrue (ascend_from 0 (slots_view p.slots.items)) };
+    ghost invariant = { λ p. IsTrue (entries_ascend 0 (slots_view p.slots.items)) };
 }
 
 /// The pool whose count stands at an offset of a file, and the offset behind its last entry.

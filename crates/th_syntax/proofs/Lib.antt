@@ -2,6 +2,12 @@ pub mod Inverting
 pub mod Origins
 pub mod Standing
 pub mod Worked
+pub mod ReadingParts
 mod Reading
-mod OneReading
+pub mod FirstFlaws
+pub mod Referring
+pub mod Complete
+pub mod WholeReading
 mod Spelled
+pub mod Visiting
+mod WorkedFiles

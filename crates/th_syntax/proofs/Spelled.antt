@@ -1,12 +1,12 @@
 -- Reading a descriptor gives the one type that it spells.
 use Rattle.std.proofs.Common.{◌≡◌, ℕ, zero, suc, ◌<◌, ◌≤◌, Bool, true, false, not, cond, ◌&&◌, List, [], ◌∷◌, ◌++◌, length, refl, sym, ap, subst, ◌∙◌, append_assoc, arith}
-use Rattle.std.specs.Prelude.{Option, Some, None, ◌==◌, codes, nat_le}
-use Rattle.std.specs.List.{flat_map, list_all}
+use Rattle.std.specs.Prelude.{Option, Some, None, ◌==◌, codes, nat_le, nat_lt}
+use Rattle.std.specs.List.{flat_map, list_all, slice_split, onto_first}
 use Rattle.std.specs.Option.{option_map, option_and_then}
 use Rattle.std.proofs.lemmas.Bool.{eqb-true}
 use Rattle.std.proofs.lemmas.List.{append-nil, nil_from_length, length-append}
 use Rattle.std.proofs.lemmas.List.Concat.{flat_map-cons}
-use Rattle.th_syntax.specs.WellFormed.{is_name_byte, are_parts}
+use Rattle.th_syntax.specs.WellFormed.{is_name_byte, is_field_name}
 use Rattle.th_syntax.specs.Descriptors.{FieldType, byte_type, char_type, double_type, float_type, int_type, long_type, short_type, boolean_type, class_type, array_type, type_bytes, dimensions, is_named_well, is_type, IsFieldDescriptor, MethodType, result_bytes, method_bytes, is_result, is_method_type, IsMethodDescriptor, base_type, name_before, element_at, type_at, alone, only_if, field_type_of, types_at, result_at, method_at, method_type_of}
 
 -- ---- options and tests
@@ -110,20 +110,43 @@ type_spelled (b ∷ bytes) x e = type_step b bytes x (b == 91) refl (λ y is. ty
 
 -- ---- what is spelled so is read
 
--- no semicolon stands in a class's name
-no_end : (b : ℕ) (begun : Bool) → cond (b == 47) begun (is_name_byte b) ≡ true → (b == 59) ≡ false
-no_end b begun e = by_test (b == 59) refl
+-- no semicolon stands in a class's name: the bytes of its parts are bytes of names
+parts_are : (parts : List (List ℕ)) → list_all is_field_name parts ≡ true → list_all (list_all is_name_byte) parts ≡ true
+parts_are [] e = refl
+parts_are (part ∷ parts) e =
+    let two = both (is_field_name part) (list_all is_field_name parts) e in
+    let bytes = both (nat_lt 0 (length part)) (list_all is_name_byte part) two.0 in
+    rw (bytes.1, parts_are parts two.1) refl
+
+no_end : (b : ℕ) → is_name_byte b ≡ true → (b == 59) ≡ false
+no_end b e = by_test (b == 59) refl
   where
     by_test : (t : Bool) → (b == 59) ≡ t → (b == 59) ≡ false
     by_test false is = is
-    by_test true is = absurd (let k : b ≡ 59 = eqb-true b 59 is in let f : cond (59 == 47) begun (is_name_byte 59) ≡ true = subst (λ (n : ℕ). cond (n == 47) begun (is_name_byte n) ≡ true) k e in cc)
+    by_test true is = absurd (let k : b ≡ 59 = eqb-true b 59 is in let f : is_name_byte 59 ≡ true = subst (λ (n : ℕ). is_name_byte n ≡ true) k e in cc)
 
-name_again : (begun : Bool) (name rest : List ℕ) → are_parts begun name ≡ true → name_before (name ++ (59 ∷ rest)) ≡ Some (name, rest)
+slash_ends_none : (b : ℕ) → (b == 47) ≡ true → (b == 59) ≡ false
+slash_ends_none b is = ap (λ (n : ℕ). n == 59) (eqb-true b 47 is)
+
+-- the first byte of parts, and the others
+first_byte : (b : ℕ) (parts : List (List ℕ)) → list_all (list_all is_name_byte) (onto_first b parts) ≡ true → (is_name_byte b ≡ true) × (list_all (list_all is_name_byte) parts ≡ true)
+first_byte b [] e =
+    let two = both (is_name_byte b) true (both (is_name_byte b && true) true e).0 in (two.0, refl)
+first_byte b (part ∷ parts) e =
+    let two = both (is_name_byte b && list_all is_name_byte part) (list_all (list_all is_name_byte) parts) e in
+    let front = both (is_name_byte b) (list_all is_name_byte part) two.0 in
+    (front.0, rw (front.1, two.1) refl)
+
+split_step : (b : ℕ) (t : Bool) (parts : List (List ℕ)) → (b == 47) ≡ t → list_all (list_all is_name_byte) (cond t ([] ∷ parts) (onto_first b parts)) ≡ true → ((b == 59) ≡ false) × (list_all (list_all is_name_byte) parts ≡ true)
+split_step b true parts is e = (slash_ends_none b is, e)
+split_step b false parts is e = let two = first_byte b parts e in (no_end b two.0, two.1)
+
+name_again : (name rest : List ℕ) → list_all (list_all is_name_byte) (slice_split (λ b. b == 47) name) ≡ true → name_before (name ++ (59 ∷ rest)) ≡ Some (name, rest)
 unfolding name_before
-name_again begun [] rest e = refl
-name_again begun (b ∷ name) rest e =
-    let two = both (cond (b == 47) begun (is_name_byte b)) (are_parts (not (b == 47)) name) e in
-    rw (no_end b begun two.0, name_again (not (b == 47)) name rest two.1) refl
+name_again [] rest e = refl
+name_again (b ∷ name) rest e =
+    let two = split_step b (b == 47) (slice_split (λ c. c == 47) name) refl e in
+    rw (two.0, name_again name rest two.1) refl
 
 pub type_again : (type : FieldType) (rest : List ℕ) → is_named_well type ≡ true → type_at (type_bytes type ++ rest) ≡ Some (type, rest)
 unfolding type_at element_at base_type
@@ -138,7 +161,7 @@ type_again boolean_type rest e = refl
 type_again (array_type element) rest e = rw (type_again element rest e) refl
 type_again (class_type name) rest e =
     let regrouped : (name ++ codes ";") ++ rest ≡ name ++ (59 ∷ rest) = append_assoc name (codes ";") rest in
-    rw (regrouped, name_again false name rest e) refl
+    rw (regrouped, name_again name rest (parts_are (slice_split (λ b. b == 47) name) e)) refl
 
 -- ---- the descriptor of a field
 

@@ -14,7 +14,8 @@ use Rattle.th_syntax.specs.declared.instr.Instr.{Instr}
 use Rattle.th_syntax.specs.declared.instr.Instr.TheVariants.{ALoad, Null, Return, PutStatic, InvokeSpecial}
 use Rattle.th_syntax.specs.Machine.{NullValue, Address, Slot, Holds, Mark, Untouched, InProgress, Done, InitStage, OpenSuperclass, CallInitialiser, EndInit, LaunchStage, OpenClass, MakeObject, EndLaunch, Frame, CodeFrame, InitFrame, LaunchFrame, Launched, State}
 use Rattle.th_syntax.specs.Handlers.{Handler, handlers, stage_after}
-use Rattle.th_syntax.specs.Program.{hierarchy_of, number_named, code_of, instr_at, next_offset, first_offset, offset_after}
+use Rattle.th_syntax.specs.Program.{hierarchy_of, number_named, code_of, instr_at, next_offset}
+use Rattle.th_syntax.specs.Flow.{first_offset, offset_after}
 use Rattle.th_syntax.specs.Initial.{new_object}
 use Rattle.th_syntax.specs.Step.{with_frames, ended_state, opened, opened_where, where_initialised, locals_with, frame_of, frame_named, Top, goes_on, popped, field_resolved, put_static, takes_receiver, called_on, special_method, method_resolved, invoke_special, returned, effect, step_init, step_launch, step_frames, argument_slots}
 use Rattle.th_syntax.specs.Harness.{is_launchable, Event, Launch, Handle, is_idle, bundle_argument, handler_begun, handled, handled_by, handler_method, happened}

@@ -1,6 +1,9 @@
 -- The items of a class file, in the order in which they stand in its bytes (Java specification 4.1 to 4.7).
 use Rattle.std.specs.Prelude.{ℕ, zero, suc, ◌+◌, ◌*◌, ◌-◌, ◌^◌, ◌==◌, ◌&&◌, ◌||◌, not, nat_le, nat_lt, List, [], ◌∷◌, Bool, true, false, Option, Some, None, ℤ, if◌then◌else◌}
 use Rattle.std.specs.Int.{w32, w64, cast_signed}
+use Rattle.th_syntax.specs.declared.cause.TheConstants as cause
+use Rattle.th_syntax.specs.declared.limit.TheConstants.{OLDEST_MAJOR, NEWEST_MAJOR}
+use Rattle.th_syntax.specs.declared.tag.TheConstants as tag
 use Rattle.th_syntax.specs.Forms.{Form, whole, item, wrong, ◌>>=◌, Placed, number_of}
 
 -- ---- items
@@ -63,29 +66,31 @@ pub data Entry : Type 0 where
 
 -- the tag of an entry (Java specification, table 4.4-A)
 abbrev pub tag_of : Entry → ℕ
-tag_of (utf8 bytes) = 1
-tag_of (integer value) = 3
-tag_of float = 4
-tag_of (long value) = 5
-tag_of double = 6
-tag_of (class name) = 7
-tag_of (string text) = 8
-tag_of (field owner member) = 9
-tag_of (method owner member) = 10
-tag_of (interface_method owner member) = 11
-tag_of (name_and_type name descriptor) = 12
-tag_of method_handle = 15
-tag_of method_type = 16
-tag_of invoke_dynamic = 18
+tag_of (utf8 bytes) = tag.UTF8
+tag_of (integer value) = tag.INTEGER
+tag_of float = tag.FLOAT
+tag_of (long value) = tag.LONG
+tag_of double = tag.DOUBLE
+tag_of (class name) = tag.CLASS
+tag_of (string text) = tag.STRING
+tag_of (field owner member) = tag.FIELD
+tag_of (method owner member) = tag.METHOD
+tag_of (interface_method owner member) = tag.INTERFACE_METHOD
+tag_of (name_and_type name descriptor) = tag.NAME_AND_TYPE
+tag_of method_handle = tag.METHOD_HANDLE
+tag_of method_type = tag.METHOD_TYPE
+tag_of invoke_dynamic = tag.INVOKE_DYNAMIC
 
 -- whether there are entries of this tag
 abbrev pub is_tag : ℕ → Bool
-is_tag tag = tag == 1 || (nat_le 3 tag && nat_le tag 12) || tag == 15 || tag == 16 || tag == 18
+is_tag t =
+    t == tag.UTF8 || (nat_le tag.INTEGER t && nat_le t tag.NAME_AND_TYPE)
+    || t == tag.METHOD_HANDLE || t == tag.METHOD_TYPE || t == tag.INVOKE_DYNAMIC
 
 -- whether an entry of this tag takes two indices, the second of which leads to nothing: a Long or a
 -- Double (Java specification 4.4.5)
 abbrev pub is_wide : ℕ → Bool
-is_wide tag = tag == 5 || tag == 6
+is_wide t = t == tag.LONG || t == tag.DOUBLE
 
 -- two indices, and two numbers of four bytes
 unfoldable pub two_indices : Form (ℕ × ℕ)
@@ -116,30 +121,30 @@ handle = do
 
 -- what stands behind a tag, and the entry that it makes
 unfoldable pub content : ℕ → Form Entry
-content tag =
-    if tag == 1 then (do bytes ← text; whole (utf8 bytes))
-    else if tag == 3 then (do value ← u4; whole (integer (cast_signed w32 value.value)))
-    else if tag == 4 then (do value ← u4; whole float)
-    else if tag == 5 then (do words ← two_words; whole (long (cast_signed w64 (words.0 * 2 ^ 32 + words.1))))
-    else if tag == 6 then (do words ← two_words; whole double)
-    else if tag == 7 then (do name ← u2; whole (class name.value))
-    else if tag == 8 then (do bytes ← u2; whole (string bytes.value))
-    else if tag == 9 then (do pair ← two_indices; whole (field pair.0 pair.1))
-    else if tag == 10 then (do pair ← two_indices; whole (method pair.0 pair.1))
-    else if tag == 11 then (do pair ← two_indices; whole (interface_method pair.0 pair.1))
-    else if tag == 12 then (do pair ← two_indices; whole (name_and_type pair.0 pair.1))
-    else if tag == 15 then (do reference ← handle; whole method_handle)
-    else if tag == 16 then (do descriptor ← u2; whole method_type)
+content t =
+    if t == tag.UTF8 then (do bytes ← text; whole (utf8 bytes))
+    else if t == tag.INTEGER then (do value ← u4; whole (integer (cast_signed w32 value.value)))
+    else if t == tag.FLOAT then (do value ← u4; whole float)
+    else if t == tag.LONG then (do words ← two_words; whole (long (cast_signed w64 (words.0 * 2 ^ 32 + words.1))))
+    else if t == tag.DOUBLE then (do words ← two_words; whole double)
+    else if t == tag.CLASS then (do name ← u2; whole (class name.value))
+    else if t == tag.STRING then (do bytes ← u2; whole (string bytes.value))
+    else if t == tag.FIELD then (do pair ← two_indices; whole (field pair.0 pair.1))
+    else if t == tag.METHOD then (do pair ← two_indices; whole (method pair.0 pair.1))
+    else if t == tag.INTERFACE_METHOD then (do pair ← two_indices; whole (interface_method pair.0 pair.1))
+    else if t == tag.NAME_AND_TYPE then (do pair ← two_indices; whole (name_and_type pair.0 pair.1))
+    else if t == tag.METHOD_HANDLE then (do reference ← handle; whole method_handle)
+    else if t == tag.METHOD_TYPE then (do descriptor ← u2; whole method_type)
     else (do pair ← two_indices; whole invoke_dynamic)
 
 -- An entry, with the offset of its tag, where `left` more indices follow its own. A tag that there
 -- isn't, and a Long or Double whose second index isn't below the count, are refused at the tag.
 unfoldable pub entry : ℕ → Form (Placed Entry)
 entry left = do
-  tag ← u1
-  known ← demand (is_tag tag.value && not (is_wide tag.value && left == 0)) tag.at 4
-  value ← content tag.value
-  whole (record { at = tag.at; value = value })
+  first ← u1
+  known ← demand (is_tag first.value && not (is_wide first.value && left == 0)) first.at cause.POOL
+  value ← content first.value
+  whole (record { at = first.at; value = value })
 
 -- What the indices of the pool lead to, from index 0 on: index 0 and the second index of a Long or
 -- Double lead to nothing (Java specification 4.1 and 4.4.5).
@@ -171,7 +176,7 @@ slots second (suc left) = do
 unfoldable pub pool : Form Pool
 pool = do
   count ← u2
-  counts ← demand (nat_lt 0 count.value) count.at 4
+  counts ← demand (nat_lt 0 count.value) count.at cause.POOL
   others ← slots false (count.value - 1)
   whole (None ∷ others)
 
@@ -223,7 +228,7 @@ unfoldable pub class_file : Form RawClass
 class_file = do
   minor ← u2
   major ← u2
-  known ← demand (nat_le 45 major.value && nat_le major.value 52) major.at 3
+  known ← demand (nat_le OLDEST_MAJOR major.value && nat_le major.value NEWEST_MAJOR) major.at cause.VERSION
   entries ← pool
   access ← u2
   this_class ← u2

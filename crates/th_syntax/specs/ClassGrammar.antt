@@ -1,17 +1,18 @@
 -- Which bytes are a class file, and what they stand for (Java specification 4).
-use Rattle.std.specs.Prelude.{◌≡◌, ℕ, ◌==◌, List, [], ◌∷◌, ◌++◌, map, Option, Some, None, if◌then◌else◌}
+use Rattle.std.specs.Prelude.{◌≡◌, ℕ, ◌==◌, nat_lt, List, [], ◌∷◌, ◌++◌, map, Bool, Option, Some, None, IsTrue, if◌then◌else◌}
+use Rattle.std.specs.List.{list_all}
 use Rattle.std.specs.Option.{option_and_then, option_map}
 use Rattle.th_syntax.specs.declared.class_file.ClassFile.{ClassFile}
 use Rattle.th_syntax.specs.declared.class_file.Member.{Member}
 use Rattle.th_syntax.specs.declared.class_file.Constant.{Constant}
 use Rattle.th_syntax.specs.declared.class_file.Code.{Code}
-use Rattle.th_syntax.specs.declared.instr.Instr.{Instr}
+use Rattle.th_syntax.specs.declared.flags.TheConstants.{ACC_STATIC}
+use Rattle.th_syntax.specs.Flags.{has_flag}
 use Rattle.th_syntax.specs.Forms.{Placed, Stands}
 use Rattle.th_syntax.specs.ClassBytes.{Pool, Attribute, RawMember, RawClass, RawCode, class_file, magic}
 use Rattle.th_syntax.specs.PoolChecks.{utf8_of, class_of}
-use Rattle.th_syntax.specs.CodeBytes.{Spelled}
 use Rattle.th_syntax.specs.Decoding.{instrs_in}
-use Rattle.th_syntax.specs.Checks.{is_static, constant_values, codes_of, constant_of, raw_code, second_pass, third_pass, fourth_pass}
+use Rattle.th_syntax.specs.Checks.{constant_values, codes_of, constant_of, raw_code, second_pass, third_pass, fourth_pass}
 
 -- ---- the value: what the indices lead to
 
@@ -21,28 +22,21 @@ all_there [] = Some []
 all_there (None ∷ more) = None
 all_there (Some x ∷ more) = option_map (λ xs. x ∷ xs) (all_there more)
 
--- an instruction with its offset in the code
-abbrev pub placed_instr : Placed Spelled → Option (ℕ × Instr)
-placed_instr one = option_map (λ instr. (one.at, instr)) one.value.instr
-
-abbrev pub code_with : RawCode → List (ℕ × Instr) → Code
-code_with raw instrs = record { max_stack = raw.max_stack; max_locals = raw.max_locals; instrs = instrs; handlers = raw.handlers }
-
-abbrev pub code_value : Pool → RawCode → Option Code
-code_value pool raw = option_map (code_with raw) (all_there (map placed_instr (instrs_in pool raw)))
+abbrev pub code_value : Pool → RawCode → Code
+code_value pool raw = record { max_stack = raw.max_stack; max_locals = raw.max_locals; instrs = instrs_in pool raw.bytes.value; handlers = raw.handlers }
 
 -- a method's code: that of its Code attribute, where it has one
 abbrev pub code_among : Pool → List Attribute → Option (Option Code)
 code_among pool [] = Some None
-code_among pool (first ∷ others) = option_map (λ code. Some code) (option_and_then (code_value pool) (raw_code first))
+code_among pool (first ∷ others) = option_map (λ raw. Some (code_value pool raw)) (raw_code first)
 
 -- a static field's constant: that of its ConstantValue attribute, where it has one
 abbrev pub constant_among : Pool → RawMember → List Attribute → Option (Option Constant)
 constant_among pool f [] = Some None
 constant_among pool f (first ∷ others) = option_map (λ constant. Some constant) (constant_of pool f first)
 
-abbrev pub constant_value : Pool → RawMember → Option (Option Constant)
-constant_value pool f = if is_static f then constant_among pool f (constant_values pool f) else Some None
+abbrev pub constant_of_field : Pool → RawMember → Option (Option Constant)
+constant_of_field pool f = if has_flag f.access.value ACC_STATIC then constant_among pool f (constant_values pool f) else Some None
 
 abbrev pub member_with : RawMember → Option Constant → Option Code → List ℕ → List ℕ → Member
 member_with m constant code name descriptor = record { access = m.access.value; name = name; descriptor = descriptor; constant = constant; code = code }
@@ -53,7 +47,7 @@ named pool m constant code =
     option_and_then (λ name. option_map (λ descriptor. member_with m constant code name descriptor) (utf8_of pool m.descriptor.value)) (utf8_of pool m.name.value)
 
 abbrev pub field_value : Pool → RawMember → Option Member
-field_value pool f = option_and_then (λ constant. named pool f constant None) (constant_value pool f)
+field_value pool f = option_and_then (λ constant. named pool f constant None) (constant_of_field pool f)
 
 abbrev pub method_value : Pool → RawMember → Option Member
 method_value pool m = option_and_then (λ code. named pool m None code) (code_among pool (codes_of pool m))
@@ -87,10 +81,15 @@ pub record IsWhole (bytes : List ℕ) (c : RawClass) : Type 0 where
   pub begins : bytes ≡ magic ++ others
   pub items : Stands class_file 4 others c behind []
 
+-- each entry of the list is a byte
+abbrev pub are_bytes : List ℕ → Bool
+are_bytes bytes = list_all (λ b. nat_lt b 256) bytes
+
 -- The bytes are the items of a class file, one behind the other, on which no check fails, and which
 -- stand for this value.
 pub record IsClassFile (bytes : List ℕ) (value : ClassFile) : Type 0 where
   pub class : RawClass
+  pub bytes_are : IsTrue (are_bytes bytes)
   pub whole : IsWhole bytes class
   pub indices : second_pass class ≡ []
   pub names : third_pass class ≡ []

@@ -1,30 +1,45 @@
 -- The instructions of a code array, and the checks that they fail (Java specification 4.9.1).
-use Rattle.std.specs.Prelude.{ℕ, zero, suc, ◌+◌, ◌-◌, ◌==◌, ◌&&◌, not, nat_le, nat_lt, List, [], ◌∷◌, ◌++◌, map, length, Bool, true, false, Option, Some, None, Result, Ok, Err, if◌then◌else◌}
-use Rattle.std.specs.List.{flat_map, list_all, list_any}
+use Rattle.std.specs.Prelude.{ℕ, zero, suc, ◌+◌, ◌-◌, ◌==◌, ◌&&◌, not, min, nat_le, nat_lt, List, [], ◌∷◌, ◌++◌, map, length, Bool, true, false, Option, Some, None, Result, Ok, Err, if◌then◌else◌}
+use Rattle.std.specs.List.{filter_map, list_all, list_any}
+use Rattle.std.specs.Option.{option_map}
+use Rattle.th_syntax.specs.declared.cause.TheConstants as cause
+use Rattle.th_syntax.specs.declared.limit.TheConstants.{MOST_CODE_BYTES}
 use Rattle.th_syntax.specs.declared.instr.Instr.{Instr}
 use Rattle.th_syntax.specs.declared.instr.Instr.TheVariants.{ILoad, LLoad, ALoad, IStore, LStore, AStore, Inc, IfZero, IfInts, IfSame, IfOther, IfNull, IfNotNull, Goto, TableSwitch, LookupSwitch, IReturn, LReturn, AReturn, Return, Throw}
 use Rattle.th_syntax.specs.declared.refusal.Flaw.{Flaw}
-use Rattle.th_syntax.specs.Forms.{Placed, Found, read}
+use Rattle.th_syntax.specs.Flaws.{flaw_at, unless}
+use Rattle.th_syntax.specs.Forms.{Placed, Found, Stands, read}
 use Rattle.th_syntax.specs.ClassBytes.{Pool, RawCode}
-use Rattle.th_syntax.specs.CodeBytes.{Spelled, instruction}
+use Rattle.th_syntax.specs.CodeBytes.{Spelled, instr, flawed, instruction}
 
 -- ---- the instructions
 
--- What stands at an opcode, and how many bytes it takes. Operands that go past the code are refused by
--- number 11. Behind operands that are refused the reading goes on at the next byte; what is found
--- there stands later and is never the first.
+-- What stands at an opcode, and how many bytes it takes. Operands that go past the code make a flaw of
+-- their own, the only one of the opcode. Behind an opcode that nothing can be read of, the reading goes
+-- on at the next byte; what is found there stands later and is never the first.
 abbrev pub spelled_by : ℕ → Result (Found Spelled) Flaw → Spelled × ℕ
 spelled_by pc (Ok found) = (found.0, found.1 - pc)
-spelled_by pc (Err flaw) = (record { instr = None; numbers = (if flaw.number == 2 then 11 else flaw.number) ∷ [] }, 1)
+spelled_by pc (Err flaw) = (flawed (if flaw.number == cause.TRUNCATED then cause.CODE_SHAPE else flaw.number) [], 1)
 
--- The instructions in order, each with its offset in the code: one starts at the first byte and at
--- each byte behind an instruction. `inside` more bytes belong to the instruction before.
+-- What the bytes spell, in order, each with its offset in the code: an instruction starts at the first
+-- byte and at each byte behind an instruction. `inside` more bytes belong to the instruction before.
 unfoldable pub decoded : Pool → ℕ → ℕ → List ℕ → List (Placed Spelled)
 decoded pool inside pc [] = []
 decoded pool zero pc (b ∷ bytes) =
     let one : Spelled × ℕ = spelled_by pc (read (instruction pool) pc (b ∷ bytes)) in
     record { at = pc; value = one.0 } ∷ decoded pool (one.1 - 1) (pc + 1) bytes
 decoded pool (suc inside) pc (b ∷ bytes) = decoded pool inside (pc + 1) bytes
+
+abbrev pub instr_of : Placed Spelled → Option (ℕ × Instr)
+instr_of one = go one.value
+  where
+    go : Spelled → Option (ℕ × Instr)
+    go (instr i) = Some (one.at, i)
+    go (flawed number numbers) = None
+
+-- the instructions of a code array, each with its offset in the code
+unfoldable pub instrs_in : Pool → List ℕ → List (ℕ × Instr)
+instrs_in pool bytes = filter_map instr_of (decoded pool 0 0 bytes)
 
 -- ---- the checks of one instruction
 
@@ -39,13 +54,20 @@ locals_named (AStore index) = index + 1
 locals_named (Inc index by) = index + 1
 locals_named other = 0
 
--- a local variable, or for a long the next one, that isn't below max_locals is refused by number 11
-abbrev pub local_numbers : ℕ → Option Instr → List ℕ
-local_numbers max_locals None = []
-local_numbers max_locals (Some instr) = if nat_le (locals_named instr) max_locals then [] else 11 ∷ []
+-- the least of these numbers
+abbrev pub least : ℕ → List ℕ → ℕ
+least number [] = number
+least number (other ∷ others) = min number (least other others)
 
-abbrev pub instr_flaws : ℕ → ℕ → Placed Spelled → List Flaw
-instr_flaws max_locals at one = map (λ number. record { number = number; offset = at + one.at }) (one.value.numbers ++ local_numbers max_locals one.value.instr)
+-- The number of the first check that fails at an opcode, where one does. A local variable, or for a long
+-- the next one, is below max_locals.
+abbrev pub failing : ℕ → Spelled → Option ℕ
+failing max_locals (instr i) = if nat_le (locals_named i) max_locals then None else Some cause.CODE_SHAPE
+failing max_locals (flawed number numbers) = Some (least number numbers)
+
+-- the flaw of an instruction, in a code array that begins at the offset `at` of the file
+abbrev pub instr_flaw : ℕ → ℕ → Placed Spelled → Option Flaw
+instr_flaw max_locals at one = option_map (λ number. flaw_at number (at + one.at)) (failing max_locals one.value)
 
 -- ---- the checks of the flow, which are made where each instruction is without flaw
 
@@ -62,53 +84,59 @@ targets_of (TableSwitch low targets other) = other ∷ targets
 targets_of (LookupSwitch pairs other) = other ∷ map (λ pair. pair.1) pairs
 targets_of other = []
 
--- whether the instruction behind it may follow an instruction
-abbrev pub goes_on : Instr → Bool
-goes_on (Goto target) = false
-goes_on (TableSwitch low targets other) = false
-goes_on (LookupSwitch pairs other) = false
-goes_on IReturn = false
-goes_on LReturn = false
-goes_on AReturn = false
-goes_on Return = false
-goes_on Throw = false
-goes_on other = true
+-- whether the instruction behind it may follow an instruction (Java specification 4.9.1)
+abbrev pub falls_through : Instr → Bool
+falls_through (Goto target) = false
+falls_through (TableSwitch low targets other) = false
+falls_through (LookupSwitch pairs other) = false
+falls_through IReturn = false
+falls_through LReturn = false
+falls_through AReturn = false
+falls_through Return = false
+falls_through Throw = false
+falls_through other = true
 
 -- whether an instruction starts at this offset
-abbrev pub is_start : List ℕ → ℕ → Bool
-is_start starts target = list_any (λ start. start == target) starts
+abbrev pub is_start : List (ℕ × Instr) → ℕ → Bool
+is_start instrs target = list_any (λ one. one.0 == target) instrs
 
-abbrev pub flows_well : List ℕ → Bool → Option Instr → Bool
-flows_well starts is_last None = true
-flows_well starts is_last (Some instr) = list_all (is_start starts) (targets_of instr) && not (is_last && goes_on instr)
+-- An instruction jumps to instructions alone, and the last one doesn't go on.
+abbrev pub flows_well : List (ℕ × Instr) → Bool → Instr → Bool
+flows_well instrs is_last i = list_all (is_start instrs) (targets_of i) && not (is_last && falls_through i)
 
--- a target where no instruction starts, and going on past the last instruction, are refused by number 11
-unfoldable pub flow_flaws : List ℕ → ℕ → List (Placed Spelled) → List Flaw
-flow_flaws starts at [] = []
-flow_flaws starts at (one ∷ more) =
-    (if flows_well starts (length more == 0) one.value.instr then [] else record { number = 11; offset = at + one.at } ∷ []) ++ flow_flaws starts at more
+-- the flaws of the flow of these instructions, the last of a code array
+abbrev pub flow_flaws_from : List (ℕ × Instr) → ℕ → List (ℕ × Instr) → List Flaw
+flow_flaws_from instrs at [] = []
+flow_flaws_from instrs at (one ∷ more) = unless (flows_well instrs (length more == 0) one.1) (flaw_at cause.CODE_SHAPE (at + one.0)) ++ flow_flaws_from instrs at more
+
+unfoldable pub flow_flaws : ℕ → List (ℕ × Instr) → List Flaw
+flow_flaws at instrs = flow_flaws_from instrs at instrs
 
 -- ---- the checks of a code array
 
-abbrev pub starts_of : List (Placed Spelled) → List ℕ
-starts_of spelled = map (λ one. one.at) spelled
-
 -- the flaws of the instructions, and where there are none those of the flow
-abbrev pub after_instr_flaws : List Flaw → List Flaw → List Flaw
-after_instr_flaws [] flow = flow
-after_instr_flaws (flaw ∷ flaws) flow = flaw ∷ flaws
+abbrev pub or_else : List Flaw → List Flaw → List Flaw
+or_else [] flow = flow
+or_else (flaw ∷ flaws) flow = flaw ∷ flaws
 
-abbrev pub spelled_flaws : ℕ → ℕ → List (Placed Spelled) → List Flaw
-spelled_flaws max_locals at spelled = after_instr_flaws (flat_map (instr_flaws max_locals at) spelled) (flow_flaws (starts_of spelled) at spelled)
+-- The flaws of a code array that begins at the offset `at` of the file, of a method with so many local
+-- variables.
+unfoldable pub flaws_in : Pool → ℕ → ℕ → List ℕ → List Flaw
+flaws_in pool max_locals at bytes =
+    or_else (filter_map (instr_flaw max_locals at) (decoded pool 0 0 bytes)) (flow_flaws at (instrs_in pool bytes))
 
--- the instructions of a method's code
-unfoldable pub instrs_in : Pool → RawCode → List (Placed Spelled)
-instrs_in pool code = decoded pool 0 0 code.bytes.value
-
--- A length of 0 or above 65,535 is refused at the length, by number 11 (Java specification 4.7.3);
--- else the instructions are looked at.
+-- A length of 0, or above the limit, is refused at the length (Java specification 4.7.3); else the
+-- instructions are looked at.
 unfoldable pub code_flaws : Pool → RawCode → List Flaw
 code_flaws pool code =
-    if nat_lt 0 code.length.value && nat_le code.length.value 65535
-    then spelled_flaws code.max_locals code.bytes.at (instrs_in pool code)
-    else record { number = 11; offset = code.length.at } ∷ []
+    if nat_lt 0 code.length.value && nat_le code.length.value MOST_CODE_BYTES
+    then flaws_in pool code.max_locals code.bytes.at code.bytes.value
+    else flaw_at cause.CODE_SHAPE code.length.at ∷ []
+
+-- ---- the same in other words, as the laws say
+
+-- The bytes are the spellings of these instructions, one behind the other, the first at the offset `pc`.
+pub data AreSpelled (pool : Pool) : ℕ → List ℕ → List (ℕ × Instr) → Type 0 where
+  none : {pc : ℕ} → AreSpelled pool pc [] []
+  more : {pc : ℕ} {bytes : List ℕ} (i : Instr) (behind : ℕ) (others : List ℕ) (instrs : List (ℕ × Instr))
+    → Stands (instruction pool) pc bytes (instr i) behind others → AreSpelled pool behind others instrs → AreSpelled pool pc bytes ((pc, i) ∷ instrs)

@@ -3,6 +3,7 @@ use Rattle.std.specs.Prelude.{◌≡◌, ℕ, zero, suc, ◌==◌, ◌&&◌, ◌
 use Rattle.std.specs.List.{flat_map, list_all, list_any}
 use Rattle.std.specs.Option.{option_map, option_and_then}
 use Rattle.std.specs.Str.{byte}
+use Rattle.th_syntax.specs.declared.limit.TheConstants.{MOST_DIMENSIONS, MOST_PARAMETER_SLOTS}
 use Rattle.th_syntax.specs.WellFormed.{is_class_name}
 
 -- ---- the types, and how they are spelled
@@ -44,9 +45,9 @@ is_named_well (array_type element) = is_named_well element
 is_named_well (class_type name) = is_class_name name
 is_named_well other = true
 
--- a type has at most 255 dimensions (Java specification 4.3.2)
+-- a type has at most so many dimensions (Java specification 4.3.2)
 abbrev pub is_type : FieldType → Bool
-is_type type = is_named_well type && nat_le (dimensions type) 255
+is_type type = is_named_well type && nat_le (dimensions type) MOST_DIMENSIONS
 
 -- the bytes are the descriptor of this type
 abbrev pub IsFieldDescriptor : List ℕ → FieldType → Type 0
@@ -81,9 +82,9 @@ abbrev pub is_result : Option FieldType → Bool
 is_result None = true
 is_result (Some type) = is_type type
 
--- a method has at most 255 slots of parameters (Java specification 4.3.3)
+-- a method has at most so many slots of parameters (Java specification 4.3.3)
 abbrev pub is_method_type : MethodType → Bool
-is_method_type m = list_all is_type m.params && is_result m.result_type && nat_le (sum_by size_of m.params) 255
+is_method_type m = list_all is_type m.params && is_result m.result_type && nat_le (sum_by size_of m.params) MOST_PARAMETER_SLOTS
 
 abbrev pub IsMethodDescriptor : List ℕ → MethodType → Type 0
 IsMethodDescriptor bytes m = (bytes ≡ method_bytes m) × IsTrue (is_method_type m)

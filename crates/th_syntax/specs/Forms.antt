@@ -1,7 +1,9 @@
 -- Forms: what bytes have to be, as items that follow one another.
 use Rattle.std.specs.Prelude.{◌≡◌, ℕ, ◌+◌, ◌*◌, ◌^◌, ◌<◌, ◌⊎◌, List, [], ◌∷◌, ◌++◌, length, take, drop, Result, Ok, Err, nat_lt, if◌then◌else◌}
 use Rattle.std.specs.List.{concat}
+use Rattle.th_syntax.specs.declared.cause.TheConstants as cause
 use Rattle.th_syntax.specs.declared.refusal.Flaw.{Flaw}
+use Rattle.th_syntax.specs.Flaws.{flaw_at}
 
 -- what the next items have to be
 pub data Form (A : Type 0) : Type 0 where
@@ -47,7 +49,7 @@ pub record Stands {A : Type 0} (form : Form A) (at : ℕ) (bytes : List ℕ) (va
   pub behind_is : behind ≡ at + length (concat items)
 
 -- The longest list of items that lies within the bytes ends before an item that goes past the end:
--- this is refused at its start, by number 2.
+-- this is refused at its start.
 pub record IsTruncated {A : Type 0} (form : Form A) (at : ℕ) (bytes : List ℕ) (flaw : Flaw) : Type 0 where
   pub items : List (List ℕ)
   pub others : List ℕ
@@ -56,7 +58,7 @@ pub record IsTruncated {A : Type 0} (form : Form A) (at : ℕ) (bytes : List ℕ
   pub front : bytes ≡ concat items ++ others
   pub begins : Begins form at items (item size next)
   pub short : length others < size
-  pub flaw_is : flaw ≡ record { number = 2; offset = at + length (concat items) }
+  pub flaw_is : flaw ≡ flaw_at cause.TRUNCATED (at + length (concat items))
 
 -- The longest list of items that lies within the bytes ends where nothing may follow.
 pub record IsWrong {A : Type 0} (form : Form A) (at : ℕ) (bytes : List ℕ) (flaw : Flaw) : Type 0 where
@@ -66,7 +68,7 @@ pub record IsWrong {A : Type 0} (form : Form A) (at : ℕ) (bytes : List ℕ) (f
   pub number : ℕ
   pub front : bytes ≡ concat items ++ others
   pub begins : Begins form at items (wrong place number)
-  pub flaw_is : flaw ≡ record { number = number; offset = place }
+  pub flaw_is : flaw ≡ flaw_at number place
 
 -- what is wrong with the items of the form at the front of the bytes
 abbrev pub IsFlawed : {A : Type 0} → Form A → ℕ → List ℕ → Flaw → Type 0
@@ -82,5 +84,5 @@ unfoldable pub read : {A : Type 0} → Form A → ℕ → List ℕ → Result (F
 read (whole x) at bytes = Ok (x, at, bytes)
 read {A = A} (item n next) at bytes =
     let longer : Result (Found A) Flaw = read (next at (take n bytes)) (at + n) (drop n bytes) in
-    if nat_lt (length bytes) n then Err (record { number = 2; offset = at }) else longer
-read (wrong place number) at bytes = Err (record { number = number; offset = place })
+    if nat_lt (length bytes) n then Err (flaw_at cause.TRUNCATED at) else longer
+read (wrong place number) at bytes = Err (flaw_at number place)

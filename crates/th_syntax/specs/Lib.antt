@@ -4,6 +4,8 @@ pub mod BuiltIn
 pub mod Layout
 pub mod Refs
 pub mod Grammar
+pub mod Flow
+pub mod WorkedFlow
 pub mod Machine
 pub mod Handlers
 pub mod Program
@@ -14,9 +16,9 @@ pub mod Run
 pub mod Joined
 pub mod Facts
 pub mod Worked
+pub mod Flaws
 pub mod Forms
 pub mod ClassBytes
-pub mod Reading
 pub mod WellFormed
 pub mod Descriptors
 pub mod PoolChecks
@@ -25,3 +27,6 @@ pub mod Decoding
 pub mod Checks
 pub mod ClassGrammar
 pub mod FirstFlaw
+pub mod Reader
+pub mod WorkedCode
+pub mod WorkedFiles

@@ -3,8 +3,11 @@
 use Rattle.std.specs.Prelude.{ℕ, ◌+◌, ◌==◌, ◌&&◌, nat_le, List, [], ◌∷◌, Bool, true, false, Option, Some, None, ℤ, slice_get, if◌then◌else◌}
 use Rattle.std.specs.List.{filter_map}
 use Rattle.std.specs.Option.{option_and_then, option_map, option_map_or, option_flatten}
+use Rattle.th_syntax.specs.declared.cause.TheConstants as cause
+use Rattle.th_syntax.specs.declared.tag.TheConstants as tag
 use Rattle.th_syntax.specs.declared.instr.MemberRef.{MemberRef}
 use Rattle.th_syntax.specs.declared.refusal.Flaw.{Flaw}
+use Rattle.th_syntax.specs.Flaws.{flaw_at}
 use Rattle.th_syntax.specs.Forms.{Placed}
 use Rattle.th_syntax.specs.ClassBytes.{Entry, utf8, integer, long, class, string, field, method, interface_method, name_and_type, tag_of, Pool}
 
@@ -18,7 +21,7 @@ tag_at pool index = option_map tag_of (entry_of pool index)
 
 -- whether the index leads to an entry of this tag
 abbrev pub has_tag : Pool → ℕ → ℕ → Bool
-has_tag pool index tag = option_map_or (λ found. found == tag) (tag_at pool index) false
+has_tag pool index expected = option_map_or (λ found. found == expected) (tag_at pool index) false
 
 -- ---- values of entries
 
@@ -84,31 +87,31 @@ member_of pool index = option_and_then (member_in pool) (entry_of pool index)
 
 -- the tag of such an entry, and its member
 abbrev pub tagged_member_of : Pool → ℕ → Option (ℕ × MemberRef)
-tagged_member_of pool index = option_and_then (λ tag. option_map (λ m. (tag, m)) (member_of pool index)) (tag_at pool index)
+tagged_member_of pool index = option_and_then (λ found. option_map (λ m. (found, m)) (member_of pool index)) (tag_at pool index)
 
 -- ---- the check of the entries
 
 -- Each index of a Class, String, Fieldref, Methodref, InterfaceMethodref and NameAndType entry leads
 -- to an entry of the right tag. The other entries are not looked into.
 abbrev pub refers_well : Pool → Entry → Bool
-refers_well pool (class name) = has_tag pool name 1
-refers_well pool (string text) = has_tag pool text 1
-refers_well pool (field owner named) = has_tag pool owner 7 && has_tag pool named 12
-refers_well pool (method owner named) = has_tag pool owner 7 && has_tag pool named 12
-refers_well pool (interface_method owner named) = has_tag pool owner 7 && has_tag pool named 12
-refers_well pool (name_and_type name descriptor) = has_tag pool name 1 && has_tag pool descriptor 1
+refers_well pool (class name) = has_tag pool name tag.UTF8
+refers_well pool (string text) = has_tag pool text tag.UTF8
+refers_well pool (field owner named) = has_tag pool owner tag.CLASS && has_tag pool named tag.NAME_AND_TYPE
+refers_well pool (method owner named) = has_tag pool owner tag.CLASS && has_tag pool named tag.NAME_AND_TYPE
+refers_well pool (interface_method owner named) = has_tag pool owner tag.CLASS && has_tag pool named tag.NAME_AND_TYPE
+refers_well pool (name_and_type name descriptor) = has_tag pool name tag.UTF8 && has_tag pool descriptor tag.UTF8
 refers_well pool other = true
 
 abbrev pub entry_flaw : Pool → Option (Placed Entry) → Option Flaw
 entry_flaw pool None = None
-entry_flaw pool (Some e) = if refers_well pool e.value then None else Some (record { number = 4; offset = e.at })
+entry_flaw pool (Some e) = if refers_well pool e.value then None else Some (flaw_at cause.POOL e.at)
 
--- an entry that refers to an entry of a wrong tag is refused at its own tag, by number 4
+-- an entry that refers to an entry of a wrong tag is refused at its own tag
 unfoldable pub entry_flaws : Pool → List Flaw
 entry_flaws pool = filter_map (entry_flaw pool) pool
 
 -- Whether the entries stand one behind the other, the first of them at this offset or later.
-abbrev pub ascend_from : ℕ → Pool → Bool
-ascend_from at [] = true
-ascend_from at (None ∷ slots) = ascend_from at slots
-ascend_from at (Some e ∷ slots) = nat_le at e.at && ascend_from (e.at + 1) slots
+abbrev pub entries_ascend : ℕ → Pool → Bool
+entries_ascend at [] = true
+entries_ascend at (None ∷ slots) = entries_ascend at slots
+entries_ascend at (Some e ∷ slots) = nat_le at e.at && entries_ascend (e.at + 1) slots

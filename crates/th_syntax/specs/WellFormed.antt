@@ -1,24 +1,19 @@
 -- Names of classes, fields and methods (Java specification 4.2). Names are bytes, and are not decoded.
-use Rattle.std.specs.Prelude.{ℕ, ◌==◌, ◌&&◌, ◌||◌, not, nat_lt, List, [], ◌∷◌, length, codes, Bool, false, if◌then◌else◌}
-use Rattle.std.specs.List.{list_all}
+use Rattle.std.specs.Prelude.{ℕ, ◌==◌, ◌&&◌, ◌||◌, not, nat_lt, List, length, codes, Bool}
+use Rattle.std.specs.List.{list_all, slice_split}
 use Rattle.std.specs.Str.{byte, bytes_eq}
 
 -- a byte that may stand in a name: none of . ; [ / (Java specification 4.2.2)
 abbrev pub is_name_byte : ℕ → Bool
 is_name_byte b = not (b == byte "." || b == byte ";" || b == byte "[" || b == byte "/")
 
--- parts of a class name, joined by / and none of them empty, of which the first has begun or not
-abbrev pub are_parts : Bool → List ℕ → Bool
-are_parts begun [] = begun
-are_parts begun (b ∷ bytes) = (if b == byte "/" then begun else is_name_byte b) && are_parts (not (b == byte "/")) bytes
-
--- the name of a class or interface in internal form (Java specification 4.2.1)
-abbrev pub is_class_name : List ℕ → Bool
-is_class_name bytes = are_parts false bytes
-
--- the name of a field (Java specification 4.2.2)
+-- an unqualified name, as that of a field: at least one byte (Java specification 4.2.2)
 abbrev pub is_field_name : List ℕ → Bool
 is_field_name bytes = nat_lt 0 (length bytes) && list_all is_name_byte bytes
+
+-- the name of a class or interface in internal form: unqualified names joined by / (Java specification 4.2.1)
+abbrev pub is_class_name : List ℕ → Bool
+is_class_name bytes = list_all is_field_name (slice_split (λ b. b == byte "/") bytes)
 
 -- the names of instance initialisation and of initialisation of a class (Java specification 2.9)
 abbrev pub is_initialiser : List ℕ → Bool

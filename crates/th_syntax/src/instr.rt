@@ -37,6 +37,10 @@ pub struct MemberRef {
     pub descriptor: Text,
 }
 
+/// The target of a branch that leads to before the code, or to 2^32 or beyond: no instruction starts
+/// there.
+pub const OUTSIDE: u32 = u32::MAX;
+
 /// An instruction (Java specification 6.5). Several spellings of one instruction, such as
 /// `aload_0` and `aload 0`, are one variant. A local variable is named by its index, and the
 /// target of a branch by its offset in bytes from the start of the code.

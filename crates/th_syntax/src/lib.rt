@@ -13,15 +13,19 @@
 //! same in plain words.
 #![tactic(auto)]
 
+pub mod cause;
 mod class_file;
 mod flags;
 mod instr;
 pub mod laws;
 mod layout;
+pub mod limit;
+pub mod opcode;
 mod refusal;
+pub mod tag;
 
 pub use class_file::{ClassFile, Code, Constant, Member};
 pub use flags::{ACC_ABSTRACT, ACC_INTERFACE, ACC_NATIVE, ACC_STATIC, has_flag};
-pub use instr::{Instr, MemberRef, Primitive, StackOp};
+pub use instr::{Instr, MemberRef, OUTSIDE, Primitive, StackOp};
 pub use layout::{FieldLayout, FileLayout, Group, MethodLayout, PoolEntry};
 pub use refusal::{Flaw, Refusal};

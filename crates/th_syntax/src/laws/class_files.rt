@@ -1,22 +1,40 @@
 // What the definitions of class files keep: functions that take nothing and do nothing, whose contracts hold.
-ghost use Rattle.std.specs.Prelude.{◌≡◌, ◌↔◌, ℕ, List, Some, Result, Ok, Err};
+ghost use Rattle.std.specs.Prelude.{◌≡◌, ◌↔◌, ◌⊎◌, ℕ, List, Some, Result, Ok, Err, IsTrue};
 ghost use Rattle.th_syntax.specs.declared.class_file.ClassFile.{ClassFile};
 ghost use Rattle.th_syntax.specs.declared.refusal.Flaw.{Flaw};
 ghost use Rattle.th_syntax.specs.Forms.{Form, Stands, IsFlawed, read};
 ghost use Rattle.th_syntax.specs.ClassBytes.{Pool, RawClass, RawCode};
 ghost use Rattle.th_syntax.specs.CodeBytes.{Spelled};
 ghost use Rattle.th_syntax.specs.Descriptors.{FieldType, MethodType, IsFieldDescriptor, IsMethodDescriptor, field_type_of, method_type_of};
-ghost use Rattle.th_syntax.specs.ClassGrammar.{IsClassFile};
+ghost use Rattle.th_syntax.specs.ClassGrammar.{IsClassFile, are_bytes};
 ghost use Rattle.th_syntax.specs.FirstFlaw.{FirstFlaw};
+ghost use Rattle.th_syntax.specs.Reader.{reading};
 
-/// A byte list stands for at most one class file.
+/// Reading bytes gives a value exactly where they are a class file that stands for it, and a flaw
+/// exactly where it is their first.
+pub fn one_reading()
+    ensures value { (bytes : List ℕ) (v : ClassFile) → IsTrue (are_bytes bytes) → (reading bytes ≡ Ok v) ↔ IsClassFile bytes v }
+    ensures flaw { (bytes : List ℕ) (flaw : Flaw) → (reading bytes ≡ Err flaw) ↔ FirstFlaw bytes flaw }
+{}
+
+/// Bytes stand for at most one class file.
 pub fn one_value()
     ensures { (bytes : List ℕ) (v w : ClassFile) → IsClassFile bytes v → IsClassFile bytes w → v ≡ w }
 {}
 
-/// A byte list that has a first flaw stands for no class file.
+/// Bytes have at most one first flaw.
+pub fn one_flaw()
+    ensures { (bytes : List ℕ) (flaw other : Flaw) → FirstFlaw bytes flaw → FirstFlaw bytes other → flaw ≡ other }
+{}
+
+/// Bytes that have a first flaw stand for no class file.
 pub fn flawed_stands_for_none()
     ensures { (bytes : List ℕ) (flaw : Flaw) (v : ClassFile) → FirstFlaw bytes flaw → IsClassFile bytes v → ⊥ }
+{}
+
+/// Bytes stand for a class file, or they have a first flaw: nothing lies between.
+pub fn flawed_or_whole()
+    ensures { (bytes : List ℕ) → IsTrue (are_bytes bytes) → ((v : ClassFile) × IsClassFile bytes v) ⊎ ((flaw : Flaw) × FirstFlaw bytes flaw) }
 {}
 
 /// Reading the form of the constant pool gives what stands at the front of the bytes by it, or what

@@ -2,6 +2,8 @@ use Rattle.std.proofs.Common.{◌≡◌, ◌≢◌, rules, inr, true, false, [],
 use Rattle.std.specs.Int.{w128}
 use Rattle.std.specs.Int.RustNames.{unsigned_abs, FitsSigned}
 use Rattle.std.proofs.lemmas.Int.{to_z-of_z}
+use Rattle.th_linear.proofs.Rounds.{one_magnitude}
+use Rattle.th_linear.proofs.Normals.{undivided}
 use Rattle.th_linear.proofs.division.normal_form.Goals as goal
 
 pub divided-requires-clause-content : goal.divided-requires-clause-content
@@ -50,3 +52,11 @@ returns-else-is_multiple-2 c =
     let content = rw c.as_slice.ensures.value at c.positive_content-g.ensures.content in
     let some : c.f.inside.coefs.items ≢ [] = search rules in
     rw (← c.f.view_is) (inr (c.in-Ne.is, some, (unsigned_abs g, (content, (λ d. let n : false ≡ true = m d in cc)))))
+
+pub returns-then-g-eq1 : goal.returns-then-g-eq1
+returns-then-g-eq1 c =
+    let g = c.positive_content-g.result in
+    let f : FitsSigned w128 g = search rules in
+    let content = rw c.as_slice.ensures.value at c.positive_content-g.ensures.content in
+    let some : c.f.inside.coefs.items ≢ [] = search rules in
+    rw (← c.f.view_is) (some, (unsigned_abs g, undivided _ (unsigned_abs g) (one_magnitude g f c.positive_content-g.ensures.positive c.if-g-eq1.true) content))

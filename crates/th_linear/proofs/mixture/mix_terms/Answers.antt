@@ -23,8 +23,8 @@ returns-then-not-is_small c =
 nonzero : (z : ℤ) → (z ≡ pos 0 → ⊥) → 0 < unsigned_abs z
 nonzero z n = grind (arith, ints)
 
-pub loop-next-preserved-in-Continue-1 : goal.loop-next-preserved-in-Continue-1
-loop-next-preserved-in-Continue-1 c =
+pub loop-next-preserved-in-Continue-branch-2 : goal.loop-next-preserved-in-Continue-branch-2
+loop-next-preserved-in-Continue-branch-2 c =
     let f : FitsSigned w128 c.in-Some.next.coefficient = search rules in
     let same = to_z-of_z w128 c.in-Some.next.coefficient f in
     let small = rw same at (c.if-not-is_small.ensures.0 refl) in

@@ -3,7 +3,8 @@ use Rattle.std.specs.Prelude.{is_some}
 use Rattle.th_syntax.specs.ClassBytes.{Pool}
 use Rattle.th_syntax.specs.PoolChecks.{class_of}
 use Rattle.th_pool.specs.PoolView.{slots_view}
-use Rattle.th_pool.proofs.Sound.{class_there, is_some-copied}
+use Rattle.th_syntax.proofs.Referring.{class_there}
+use Rattle.th_pool.proofs.Sound.{is_some-copied}
 use Rattle.th_pool.proofs.pool.Pool.class.Goals as goal
 
 pub returns-clause-there : goal.returns-clause-there

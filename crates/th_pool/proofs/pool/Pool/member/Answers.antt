@@ -3,7 +3,8 @@ use Rattle.std.specs.Prelude.{is_some}
 use Rattle.th_syntax.specs.ClassBytes.{Pool}
 use Rattle.th_syntax.specs.PoolChecks.{tagged_member_of}
 use Rattle.th_pool.specs.PoolView.{slots_view}
-use Rattle.th_pool.proofs.Sound.{member_there, is_some-member}
+use Rattle.th_syntax.proofs.Referring.{member_there}
+use Rattle.th_pool.proofs.Sound.{is_some-member}
 use Rattle.th_pool.proofs.pool.Pool.member.Goals as goal
 
 pub returns-clause-there : goal.returns-clause-there

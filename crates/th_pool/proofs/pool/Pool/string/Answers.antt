@@ -3,7 +3,8 @@ use Rattle.std.specs.Prelude.{is_some}
 use Rattle.th_syntax.specs.ClassBytes.{Pool}
 use Rattle.th_syntax.specs.PoolChecks.{string_of}
 use Rattle.th_pool.specs.PoolView.{slots_view}
-use Rattle.th_pool.proofs.Sound.{string_there, is_some-copied}
+use Rattle.th_syntax.proofs.Referring.{string_there}
+use Rattle.th_pool.proofs.Sound.{is_some-copied}
 use Rattle.th_pool.proofs.pool.Pool.string.Goals as goal
 
 pub returns-clause-there : goal.returns-clause-there

@@ -1,0 +1,52 @@
+// The sets, and what is left to do.
+ghost use Rattle.std.specs.Prelude.{◌≡◌, ◌<◌, ◌^◌, [], length, slice_set, OnOk};
+ghost use Rattle.th_base.specs.IdSet.{union_of, IsAscending};
+ghost use Rattle.th_incl.specs.Least.{set_at};
+
+use crate::absorb::absorb;
+use crate::news::News;
+use std::alloc::{AllocError, Global};
+use std::mem;
+use th_base::IdSet;
+
+#[derive(Debug, Drop)]
+pub(crate) struct Work {
+    pub(crate) sets: Vec<IdSet>,
+    pub(crate) news: Vec<News>,
+    // The sets that have news; one may stand here more than once.
+    pub(crate) queue: Vec<usize>,
+    // How many numbers the sets hold together.
+    pub(crate) pairs: u64,
+}
+
+// Takes the news of a set.
+pub(crate) fn take_news(alloc: Global, news: &mut Vec<News>, set: usize) -> News
+    requires { set < length news.old.items }
+    ensures value { result ≡ set_at news.old.items set }
+    ensures rest { news.new.items ≡ slice_set news.old.items set [] }
+{
+    mem::replace(&mut news[set], News::new(alloc))
+}
+
+// Puts news in the place of those of a set.
+pub(crate) fn put_news(news: &mut Vec<News>, set: usize, ids: News)
+    requires { set < length news.old.items }
+    ensures { news.new.items ≡ slice_set news.old.items set ids }
+{
+    news[set] = ids;
+}
+
+// Adds ascending numbers to one of the sets.
+pub(crate) fn absorb_at(
+    alloc: Global,
+    sets: &mut Vec<IdSet>,
+    set: usize,
+    ids: &[u32],
+) -> Result<(), AllocError>
+    requires inside { set < length sets.old.items }
+    requires ascending { IsAscending ids.now }
+    ensures sets { OnOk result (sets.new.items ≡ slice_set sets.old.items set (union_of (set_at sets.old.items set) ids.now)) }
+    ensures fits { OnOk result (length (union_of (set_at sets.old.items set) ids.now) < 2 ^ 64) }
+{
+    absorb(alloc, &mut sets[set], ids)
+}
