@@ -4,6 +4,7 @@ pub mod Applied
 pub mod Changes
 pub mod Covering
 pub mod Heaps
+pub mod ListedFacts
 pub mod Nests
 pub mod New
 pub mod Plain
@@ -11,6 +12,7 @@ pub mod Ranges
 pub mod Realised
 pub mod Runs
 pub mod Slots
+pub mod TestedFacts
 pub mod TestedPrograms
 pub mod TestedSites
 pub mod TestedStatements
@@ -18,8 +20,13 @@ pub mod Touches
 pub mod WholeCalls
 pub mod WorkedChartedForm
 pub mod WorkedHandlers
+pub mod WorkedInitialisingFacts
 pub mod WorkedInitialisingForm
+pub mod WorkedNamingFacts
 pub mod WorkedNamingForm
+pub mod WorkedReceiversFacts
 pub mod WorkedReceiversForm
+pub mod WorkedStoringFacts
 pub mod WorkedStoringForm
+pub mod WorkedVectorFacts
 pub mod WorkedVectorForm

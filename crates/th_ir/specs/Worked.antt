@@ -3,6 +3,7 @@ use Rattle.std.specs.Prelude.{ℕ, Bool, true, false, List, [], ◌∷◌, ◌++
 use Rattle.th_base.specs.declared.class.ClassInfo.{ClassInfo}
 use Rattle.th_base.specs.declared.class.FieldInfo.{FieldInfo}
 use Rattle.th_base.specs.declared.class.MethodInfo.{MethodInfo}
+use Rattle.th_base.specs.declared.number.MethodId.{MethodId}
 use Rattle.th_base.specs.declared.number.NodeId.{NodeId}
 use Rattle.th_base.specs.declared.number.Reg.{Reg}
 use Rattle.th_base.specs.BuiltIn.{built_in_method}
@@ -111,3 +112,12 @@ built_in_nodes =
 -- the registers of their parameters hold references
 abbrev pub built_in_refs : List ℕ
 built_in_refs = 0 ∷ 1 ∷ 2 ∷ 3 ∷ 4 ∷ 5 ∷ 6 ∷ 7 ∷ 8 ∷ 9 ∷ 10 ∷ 11 ∷ 12 ∷ 13 ∷ 14 ∷ 15 ∷ 16 ∷ 17 ∷ 18 ∷ []
+
+-- ---- facts
+
+abbrev pub no_sites : List ℕ
+no_sites = []
+
+-- the node may call the method
+abbrev pub call_of : ℕ → ℕ → NodeId × MethodId
+call_of n m = (record { 0 = n }, record { 0 = m })

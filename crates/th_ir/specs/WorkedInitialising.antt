@@ -3,12 +3,13 @@
 use Rattle.std.specs.Prelude.{List, [], ◌∷◌, ◌++◌, None, ℕ, codes, true}
 use Rattle.th_base.specs.declared.class.ClassInfo.{ClassInfo}
 use Rattle.th_base.specs.BuiltIn.{built_in_classes}
+use Rattle.th_ir.specs.declared.facts.Facts.{Facts}
 use Rattle.th_ir.specs.declared.program.RegProgram.{RegProgram}
 use Rattle.th_ir.specs.declared.program.Place.TheVariants.{Launch, Event, Code}
 use Rattle.th_ir.specs.declared.stmt.CallKind.TheVariants.{Virtual, Static}
 use Rattle.th_ir.specs.declared.stmt.Stmt.TheVariants.{Nop, Null, PutStatic, New, Call, Init, Return, Pick}
 use Rattle.th_ir.specs.Harness.{to}
-use Rattle.th_ir.specs.Worked.{class_info, field_info, method_info, static_method_info, reg, site, node, own, harness_method, call_special, built_in_methods, built_in_nodes, built_in_refs}
+use Rattle.th_ir.specs.Worked.{class_info, field_info, method_info, static_method_info, reg, site, node, own, harness_method, call_special, built_in_methods, built_in_nodes, built_in_refs, no_sites, call_of}
 
 -- the classes of the files, and all classes
 abbrev pub initialising_files : List ClassInfo
@@ -119,4 +120,25 @@ initialising_program = record {
   refs = built_in_refs ++ (19 ∷ 20 ∷ 21 ∷ 22 ∷ 23 ∷ 24 ∷ 25 ∷ 26 ∷ 27 ∷ 28 ∷ 29 ∷ 30 ∷ 31 ∷ 32 ∷ 33 ∷ 34 ∷ 35 ∷ []);
   ints = [];
   strings = [];
+}
+
+-- the sets of its facts, register by register
+abbrev pub initialising_facts : Facts
+initialising_facts = record {
+  regs =
+      no_sites ∷ no_sites ∷ no_sites ∷ no_sites ∷ no_sites ∷ no_sites ∷ no_sites ∷ no_sites ∷
+      (0 ∷ 2 ∷ []) ∷ no_sites ∷ no_sites ∷ (0 ∷ []) ∷ (0 ∷ []) ∷ (0 ∷ []) ∷ (0 ∷ []) ∷ (0 ∷ []) ∷
+      (0 ∷ []) ∷ (0 ∷ []) ∷ (1 ∷ []) ∷ no_sites ∷ (2 ∷ []) ∷ no_sites ∷ (0 ∷ 2 ∷ []) ∷ (0 ∷ []) ∷
+      (1 ∷ []) ∷ (0 ∷ []) ∷ (0 ∷ []) ∷ (1 ∷ []) ∷ (0 ∷ []) ∷ (0 ∷ []) ∷ (0 ∷ []) ∷ (0 ∷ []) ∷
+      (0 ∷ []) ∷ (0 ∷ []) ∷ (0 ∷ []) ∷ (1 ∷ []) ∷
+      [];
+  statics = (2 ∷ []) ∷ [];
+  cells = [];
+  elems = [];
+  calls =
+      call_of 21 20 ∷ call_of 25 21 ∷ call_of 33 8 ∷ call_of 36 20 ∷ call_of 40 21 ∷ call_of 45 22 ∷
+      call_of 48 10 ∷ call_of 51 11 ∷ call_of 54 12 ∷ call_of 57 13 ∷ call_of 60 14 ∷ call_of 63 15 ∷
+      call_of 68 16 ∷
+      [];
+  reached = 8 ∷ 10 ∷ 11 ∷ 12 ∷ 13 ∷ 14 ∷ 15 ∷ 16 ∷ 18 ∷ 20 ∷ 21 ∷ 22 ∷ 23 ∷ 24 ∷ 25 ∷ 26 ∷ 27 ∷ 28 ∷ 29 ∷ 30 ∷ 31 ∷ [];
 }

@@ -4,12 +4,13 @@ use Rattle.std.specs.Prelude.{List, [], ◌∷◌, ◌++◌, None, ℕ, codes, t
 use Rattle.th_base.specs.declared.class.ClassInfo.{ClassInfo}
 use Rattle.th_base.specs.declared.operation.Elem.TheVariants.{Ref}
 use Rattle.th_base.specs.BuiltIn.{built_in_classes}
+use Rattle.th_ir.specs.declared.facts.Facts.{Facts}
 use Rattle.th_ir.specs.declared.program.RegProgram.{RegProgram}
 use Rattle.th_ir.specs.declared.program.Place.TheVariants.{Launch, Event, Code}
 use Rattle.th_ir.specs.declared.stmt.CallKind.TheVariants.{Virtual}
 use Rattle.th_ir.specs.declared.stmt.Stmt.TheVariants.{Nop, Const, Null, PutStatic, GetElem, PutElem, New, NewArray, Call, Init, Return, Pick}
 use Rattle.th_ir.specs.Harness.{to}
-use Rattle.th_ir.specs.Worked.{class_info, field_info, method_info, reg, site, node, own, harness_method, call_special, built_in_methods, built_in_nodes, built_in_refs}
+use Rattle.th_ir.specs.Worked.{class_info, field_info, method_info, reg, site, node, own, harness_method, call_special, built_in_methods, built_in_nodes, built_in_refs, no_sites, call_of}
 
 -- the classes of the files, and all classes
 abbrev pub receivers_files : List ClassInfo
@@ -138,4 +139,26 @@ receivers_program = record {
       43 ∷ 44 ∷ 45 ∷ []);
   ints = [];
   strings = [];
+}
+
+-- the sets of its facts, register by register
+abbrev pub receivers_facts : Facts
+receivers_facts = record {
+  regs =
+      (3 ∷ 4 ∷ []) ∷ no_sites ∷ no_sites ∷ no_sites ∷ no_sites ∷ no_sites ∷ no_sites ∷ no_sites ∷
+      (0 ∷ []) ∷ no_sites ∷ no_sites ∷ (0 ∷ []) ∷ (0 ∷ []) ∷ (0 ∷ []) ∷ (0 ∷ []) ∷ (0 ∷ []) ∷
+      (0 ∷ []) ∷ (0 ∷ []) ∷ (1 ∷ []) ∷ (3 ∷ 4 ∷ []) ∷ (3 ∷ []) ∷ (4 ∷ []) ∷ (4 ∷ []) ∷ (0 ∷ []) ∷
+      (0 ∷ []) ∷ (1 ∷ []) ∷ no_sites ∷ (2 ∷ []) ∷ no_sites ∷ (3 ∷ []) ∷ no_sites ∷ (4 ∷ []) ∷
+      no_sites ∷ (3 ∷ 4 ∷ []) ∷ (3 ∷ 4 ∷ []) ∷ (0 ∷ []) ∷ (0 ∷ []) ∷ (1 ∷ []) ∷ (0 ∷ []) ∷ (0 ∷ []) ∷
+      (0 ∷ []) ∷ (0 ∷ []) ∷ (0 ∷ []) ∷ (0 ∷ []) ∷ (0 ∷ []) ∷ (1 ∷ []) ∷
+      [];
+  statics = (3 ∷ 4 ∷ []) ∷ [];
+  cells = [];
+  elems = (record { 0 = 2 }, (3 ∷ 4 ∷ [])) ∷ [];
+  calls =
+      call_of 18 0 ∷ call_of 23 17 ∷ call_of 28 8 ∷ call_of 38 17 ∷ call_of 45 19 ∷ call_of 50 18 ∷
+      call_of 50 20 ∷ call_of 55 21 ∷ call_of 60 22 ∷ call_of 63 10 ∷ call_of 66 11 ∷ call_of 69 12 ∷
+      call_of 72 13 ∷ call_of 75 14 ∷ call_of 78 15 ∷ call_of 83 16 ∷
+      [];
+  reached = 0 ∷ 8 ∷ 10 ∷ 11 ∷ 12 ∷ 13 ∷ 14 ∷ 15 ∷ 16 ∷ 17 ∷ 18 ∷ 19 ∷ 20 ∷ 21 ∷ 22 ∷ 23 ∷ 24 ∷ 25 ∷ 26 ∷ 27 ∷ 28 ∷ 29 ∷ 30 ∷ 31 ∷ [];
 }

@@ -3,12 +3,13 @@
 use Rattle.std.specs.Prelude.{List, [], ◌∷◌, ◌++◌, None, ℕ, codes, true}
 use Rattle.th_base.specs.declared.class.ClassInfo.{ClassInfo}
 use Rattle.th_base.specs.BuiltIn.{built_in_classes}
+use Rattle.th_ir.specs.declared.facts.Facts.{Facts}
 use Rattle.th_ir.specs.declared.program.RegProgram.{RegProgram}
 use Rattle.th_ir.specs.declared.program.Place.TheVariants.{Launch, Event}
 use Rattle.th_ir.specs.declared.stmt.CallKind.TheVariants.{Virtual}
 use Rattle.th_ir.specs.declared.stmt.Stmt.TheVariants.{Nop, Null, PutStatic, New, Call, Init, Return, Pick}
 use Rattle.th_ir.specs.Harness.{to}
-use Rattle.th_ir.specs.Worked.{class_info, field_info, method_info, reg, site, node, own, harness_method, call_special, built_in_methods, built_in_nodes, built_in_refs}
+use Rattle.th_ir.specs.Worked.{class_info, field_info, method_info, reg, site, node, own, harness_method, call_special, built_in_methods, built_in_nodes, built_in_refs, no_sites, call_of}
 
 -- the classes of the files, and all classes
 abbrev pub storing_files : List ClassInfo
@@ -89,4 +90,24 @@ storing_program = record {
   refs = built_in_refs ++ (19 ∷ 20 ∷ 21 ∷ 22 ∷ 23 ∷ 24 ∷ 25 ∷ 26 ∷ 27 ∷ 28 ∷ 29 ∷ 30 ∷ 31 ∷ 32 ∷ []);
   ints = [];
   strings = [];
+}
+
+-- the sets of its facts, register by register
+abbrev pub storing_facts : Facts
+storing_facts = record {
+  regs =
+      no_sites ∷ no_sites ∷ no_sites ∷ no_sites ∷ no_sites ∷ no_sites ∷ no_sites ∷ no_sites ∷
+      (0 ∷ []) ∷ no_sites ∷ no_sites ∷ (0 ∷ []) ∷ (0 ∷ []) ∷ (0 ∷ []) ∷ (0 ∷ []) ∷ (0 ∷ []) ∷
+      (0 ∷ []) ∷ (0 ∷ []) ∷ (1 ∷ []) ∷ (0 ∷ []) ∷ (0 ∷ []) ∷ (1 ∷ []) ∷ (0 ∷ []) ∷ (0 ∷ []) ∷
+      (1 ∷ []) ∷ (0 ∷ []) ∷ (0 ∷ []) ∷ (0 ∷ []) ∷ (0 ∷ []) ∷ (0 ∷ []) ∷ (0 ∷ []) ∷ (0 ∷ []) ∷
+      (1 ∷ []) ∷
+      [];
+  statics = (0 ∷ []) ∷ [];
+  cells = [];
+  elems = [];
+  calls =
+      call_of 18 8 ∷ call_of 25 17 ∷ call_of 30 18 ∷ call_of 33 10 ∷ call_of 36 11 ∷ call_of 39 12 ∷
+      call_of 42 13 ∷ call_of 45 14 ∷ call_of 48 15 ∷ call_of 53 16 ∷
+      [];
+  reached = 8 ∷ 10 ∷ 11 ∷ 12 ∷ 13 ∷ 14 ∷ 15 ∷ 16 ∷ 17 ∷ 18 ∷ 19 ∷ 20 ∷ 21 ∷ 22 ∷ 23 ∷ 24 ∷ 25 ∷ 26 ∷ 27 ∷ [];
 }

@@ -4,13 +4,14 @@ use Rattle.std.specs.Prelude.{List, [], ◌∷◌, ◌++◌, None, ℕ, codes, t
 use Rattle.th_base.specs.declared.class.ClassInfo.{ClassInfo}
 use Rattle.th_base.specs.declared.operation.Relation.TheVariants.{Ge, Lt}
 use Rattle.th_base.specs.BuiltIn.{built_in_classes}
+use Rattle.th_ir.specs.declared.facts.Facts.{Facts}
 use Rattle.th_ir.specs.declared.program.RegProgram.{RegProgram}
 use Rattle.th_ir.specs.declared.program.Place.TheVariants.{Launch, Event, Code}
 use Rattle.th_ir.specs.declared.stmt.CallKind.TheVariants.{Virtual}
 use Rattle.th_ir.specs.declared.stmt.Condition.TheVariants.{Ints}
 use Rattle.th_ir.specs.declared.stmt.Stmt.TheVariants.{Nop, Const, Null, Copy, Assume, GetStatic, PutStatic, GetField, PutField, PutElem, New, NewArray, Call, Init, Return, Pick}
 use Rattle.th_ir.specs.Harness.{to}
-use Rattle.th_ir.specs.Worked.{class_info, field_info, method_info, static_method_info, reg, site, node, own, harness_method, call_special, built_in_methods, built_in_nodes, built_in_refs}
+use Rattle.th_ir.specs.Worked.{class_info, field_info, method_info, static_method_info, reg, site, node, own, harness_method, call_special, built_in_methods, built_in_nodes, built_in_refs, no_sites, call_of}
 
 -- the classes of the files, and all classes
 abbrev pub vector_files : List ClassInfo
@@ -152,4 +153,27 @@ vector_program = record {
       45 ∷ 46 ∷ 47 ∷ 48 ∷ []);
   ints = [];
   strings = [];
+}
+
+-- the sets of its facts, register by register
+abbrev pub vector_facts : Facts
+vector_facts = record {
+  regs =
+      (3 ∷ 4 ∷ []) ∷ no_sites ∷ no_sites ∷ no_sites ∷ no_sites ∷ no_sites ∷ no_sites ∷ no_sites ∷
+      (0 ∷ []) ∷ no_sites ∷ no_sites ∷ (0 ∷ []) ∷ (0 ∷ []) ∷ (0 ∷ []) ∷ (0 ∷ []) ∷ (0 ∷ []) ∷
+      (0 ∷ []) ∷ (0 ∷ []) ∷ (1 ∷ []) ∷ (3 ∷ 4 ∷ []) ∷ no_sites ∷ no_sites ∷ (2 ∷ []) ∷ (4 ∷ []) ∷
+      (0 ∷ []) ∷ no_sites ∷ no_sites ∷ (2 ∷ []) ∷ no_sites ∷ (4 ∷ []) ∷ (0 ∷ []) ∷ no_sites ∷
+      (2 ∷ []) ∷ (0 ∷ []) ∷ (3 ∷ []) ∷ (0 ∷ []) ∷ (1 ∷ []) ∷ (4 ∷ []) ∷ (0 ∷ []) ∷ (0 ∷ []) ∷
+      (1 ∷ []) ∷ (0 ∷ []) ∷ (0 ∷ []) ∷ (0 ∷ []) ∷ (0 ∷ []) ∷ (0 ∷ []) ∷ (0 ∷ []) ∷ (0 ∷ []) ∷
+      (1 ∷ []) ∷
+      [];
+  statics = (2 ∷ []) ∷ no_sites ∷ no_sites ∷ no_sites ∷ (3 ∷ []) ∷ [];
+  cells = (record { 0 = 3 }, record { 0 = 3 }, (2 ∷ [])) ∷ (record { 0 = 4 }, record { 0 = 3 }, (2 ∷ [])) ∷ [];
+  elems = (record { 0 = 2 }, (0 ∷ [])) ∷ [];
+  calls =
+      call_of 18 0 ∷ call_of 50 8 ∷ call_of 55 17 ∷ call_of 61 17 ∷ call_of 63 18 ∷ call_of 67 20 ∷
+      call_of 72 22 ∷ call_of 75 10 ∷ call_of 78 11 ∷ call_of 81 12 ∷ call_of 84 13 ∷ call_of 87 14 ∷
+      call_of 90 15 ∷ call_of 95 16 ∷
+      [];
+  reached = 0 ∷ 8 ∷ 10 ∷ 11 ∷ 12 ∷ 13 ∷ 14 ∷ 15 ∷ 16 ∷ 17 ∷ 18 ∷ 19 ∷ 20 ∷ 21 ∷ 22 ∷ 23 ∷ 24 ∷ 25 ∷ 26 ∷ 27 ∷ 28 ∷ 29 ∷ 30 ∷ 31 ∷ [];
 }
