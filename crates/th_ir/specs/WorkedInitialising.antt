@@ -1,0 +1,144 @@
+-- A small program by hand: the initialiser of P calls a static method of its subclass Q and stores a new
+-- Activity; the Activity calls that method when it is created.
+use Rattle.std.specs.Prelude.{List, [], ◌∷◌, ◌++◌, None, ℕ, codes, true}
+use Rattle.th_base.specs.declared.class.ClassInfo.{ClassInfo}
+use Rattle.th_base.specs.BuiltIn.{built_in_classes}
+use Rattle.th_ir.specs.declared.facts.Facts.{Facts}
+use Rattle.th_ir.specs.declared.program.RegProgram.{RegProgram}
+use Rattle.th_ir.specs.declared.program.Place.TheVariants.{Launch, Event, Code}
+use Rattle.th_ir.specs.declared.stmt.CallKind.TheVariants.{Virtual, Static}
+use Rattle.th_ir.specs.declared.stmt.Stmt.TheVariants.{Nop, Null, PutStatic, New, Call, Init, Return, Pick}
+use Rattle.th_ir.specs.Harness.{to}
+use Rattle.th_ir.specs.Worked.{class_info, field_info, method_info, static_method_info, reg, site, node, own, harness_method, call_special, built_in_methods, built_in_nodes, built_in_refs, no_sites, call_of}
+
+-- the classes of the files, and all classes
+abbrev pub initialising_files : List ClassInfo
+initialising_files =
+    class_info (codes "P") 0
+    (field_info 0 true (codes "s") (codes "Ljava/lang/Object;") ∷ [])
+    (method_info 17 (codes "<init>") (codes "()V")
+    ∷ static_method_info 18 (codes "<clinit>") (codes "()V")
+    ∷ [])
+    ∷ class_info (codes "Q") 11
+    []
+    (method_info 19 (codes "<init>") (codes "()V")
+    ∷ static_method_info 20 (codes "m") (codes "()V")
+    ∷ [])
+    ∷ class_info (codes "Act") 10
+    []
+    (method_info 21 (codes "<init>") (codes "()V")
+    ∷ method_info 22 (codes "onCreate") (codes "(Landroid/os/Bundle;)V")
+    ∷ [])
+    ∷ []
+
+abbrev pub initialising_classes : List ClassInfo
+initialising_classes = built_in_classes ++ initialising_files
+
+abbrev pub initialising_program : RegProgram
+initialising_program = record {
+  methods =
+      built_in_methods
+      ++ (own 11 17 (reg 19 ∷ []) 19
+      ∷ own 11 20 [] 27
+      ∷ own 12 28 (reg 21 ∷ []) 30
+      ∷ own 12 31 [] 31
+      ∷ own 13 32 (reg 22 ∷ []) 34
+      ∷ own 13 35 (reg 23 ∷ reg 24 ∷ []) 37
+      ∷ harness_method 38 41
+      ∷ harness_method 42 46
+      ∷ harness_method 47 49
+      ∷ harness_method 50 52
+      ∷ harness_method 53 55
+      ∷ harness_method 56 58
+      ∷ harness_method 59 61
+      ∷ harness_method 62 64
+      ∷ harness_method 65 69
+      ∷ []);
+  nodes =
+      built_in_nodes
+      ++ (node 17 0 Nop (to 18)
+      ∷ node 17 1 (call_special 0 (reg 19 ∷ [])) (to 19)
+      ∷ node 17 4 (Return None) []
+      ∷ node 18 0 (Init record { 0 = 12 }) (to 21)
+      ∷ node 18 0 (Call None Static record { 0 = 20 } []) (to 22)
+      ∷ node 18 3 (Init record { 0 = 13 }) (to 23)
+      ∷ node 18 3 (New (reg 20) record { 0 = 2 }) (to 24)
+      ∷ node 18 6 Nop (to 25)
+      ∷ node 18 7 (call_special 21 (reg 20 ∷ [])) (to 26)
+      ∷ node 18 10 (PutStatic record { 0 = 0 } (reg 20)) (to 27)
+      ∷ node 18 13 (Return None) []
+      ∷ node 19 0 Nop (to 29)
+      ∷ node 19 1 (call_special 17 (reg 21 ∷ [])) (to 30)
+      ∷ node 19 4 (Return None) []
+      ∷ node 20 0 (Return None) []
+      ∷ node 21 0 Nop (to 33)
+      ∷ node 21 1 (call_special 8 (reg 22 ∷ [])) (to 34)
+      ∷ node 21 4 (Return None) []
+      ∷ node 22 0 (Init record { 0 = 12 }) (to 36)
+      ∷ node 22 0 (Call None Static record { 0 = 20 } []) (to 37)
+      ∷ node 22 3 (Return None) []
+      ∷ node 23 0 (Init record { 0 = 13 }) (to 39)
+      ∷ node 23 0 (New (reg 25) record { 0 = 0 }) (to 40)
+      ∷ node 23 0 (call_special 21 (reg 25 ∷ [])) (to 41)
+      ∷ node 23 0 (Return None) []
+      ∷ node 24 0 (Pick (reg 26) record { 0 = 13 }) (record { 0 = 43 } ∷ record { 0 = 44 } ∷ [])
+      ∷ node 24 0 (Null (reg 27)) (to 45)
+      ∷ node 24 0 (New (reg 27) record { 0 = 1 }) (to 45)
+      ∷ node 24 0 (Call None Virtual record { 0 = 9 } (reg 26 ∷ reg 27 ∷ [])) (to 46)
+      ∷ node 24 0 (Return None) []
+      ∷ node 25 0 (Pick (reg 28) record { 0 = 13 }) (to 48)
+      ∷ node 25 0 (Call None Virtual record { 0 = 10 } (reg 28 ∷ [])) (to 49)
+      ∷ node 25 0 (Return None) []
+      ∷ node 26 0 (Pick (reg 29) record { 0 = 13 }) (to 51)
+      ∷ node 26 0 (Call None Virtual record { 0 = 11 } (reg 29 ∷ [])) (to 52)
+      ∷ node 26 0 (Return None) []
+      ∷ node 27 0 (Pick (reg 30) record { 0 = 13 }) (to 54)
+      ∷ node 27 0 (Call None Virtual record { 0 = 12 } (reg 30 ∷ [])) (to 55)
+      ∷ node 27 0 (Return None) []
+      ∷ node 28 0 (Pick (reg 31) record { 0 = 13 }) (to 57)
+      ∷ node 28 0 (Call None Virtual record { 0 = 13 } (reg 31 ∷ [])) (to 58)
+      ∷ node 28 0 (Return None) []
+      ∷ node 29 0 (Pick (reg 32) record { 0 = 13 }) (to 60)
+      ∷ node 29 0 (Call None Virtual record { 0 = 14 } (reg 32 ∷ [])) (to 61)
+      ∷ node 29 0 (Return None) []
+      ∷ node 30 0 (Pick (reg 33) record { 0 = 13 }) (to 63)
+      ∷ node 30 0 (Call None Virtual record { 0 = 15 } (reg 33 ∷ [])) (to 64)
+      ∷ node 30 0 (Return None) []
+      ∷ node 31 0 (Pick (reg 34) record { 0 = 13 }) (record { 0 = 66 } ∷ record { 0 = 67 } ∷ [])
+      ∷ node 31 0 (Null (reg 35)) (to 68)
+      ∷ node 31 0 (New (reg 35) record { 0 = 1 }) (to 68)
+      ∷ node 31 0 (Call None Virtual record { 0 = 16 } (reg 34 ∷ reg 35 ∷ [])) (to 69)
+      ∷ node 31 0 (Return None) []
+      ∷ []);
+  sites = site (codes "Act") (Launch record { 0 = 13 })
+      ∷ site (codes "android/os/Bundle") Event
+      ∷ site (codes "Act") (Code record { 0 = 18 } 3)
+      ∷ [];
+  harness =
+      record { 0 = 23 } ∷ record { 0 = 24 } ∷ record { 0 = 25 } ∷ record { 0 = 26 } ∷ record { 0 = 27 } ∷
+      record { 0 = 28 } ∷ record { 0 = 29 } ∷ record { 0 = 30 } ∷ record { 0 = 31 } ∷ [];
+  refs = built_in_refs ++ (19 ∷ 20 ∷ 21 ∷ 22 ∷ 23 ∷ 24 ∷ 25 ∷ 26 ∷ 27 ∷ 28 ∷ 29 ∷ 30 ∷ 31 ∷ 32 ∷ 33 ∷ 34 ∷ 35 ∷ []);
+  ints = [];
+  strings = [];
+}
+
+-- the sets of its facts, register by register
+abbrev pub initialising_facts : Facts
+initialising_facts = record {
+  regs =
+      no_sites ∷ no_sites ∷ no_sites ∷ no_sites ∷ no_sites ∷ no_sites ∷ no_sites ∷ no_sites ∷
+      (0 ∷ 2 ∷ []) ∷ no_sites ∷ no_sites ∷ (0 ∷ []) ∷ (0 ∷ []) ∷ (0 ∷ []) ∷ (0 ∷ []) ∷ (0 ∷ []) ∷
+      (0 ∷ []) ∷ (0 ∷ []) ∷ (1 ∷ []) ∷ no_sites ∷ (2 ∷ []) ∷ no_sites ∷ (0 ∷ 2 ∷ []) ∷ (0 ∷ []) ∷
+      (1 ∷ []) ∷ (0 ∷ []) ∷ (0 ∷ []) ∷ (1 ∷ []) ∷ (0 ∷ []) ∷ (0 ∷ []) ∷ (0 ∷ []) ∷ (0 ∷ []) ∷
+      (0 ∷ []) ∷ (0 ∷ []) ∷ (0 ∷ []) ∷ (1 ∷ []) ∷
+      [];
+  statics = (2 ∷ []) ∷ [];
+  cells = [];
+  elems = [];
+  calls =
+      call_of 21 20 ∷ call_of 25 21 ∷ call_of 33 8 ∷ call_of 36 20 ∷ call_of 40 21 ∷ call_of 45 22 ∷
+      call_of 48 10 ∷ call_of 51 11 ∷ call_of 54 12 ∷ call_of 57 13 ∷ call_of 60 14 ∷ call_of 63 15 ∷
+      call_of 68 16 ∷
+      [];
+  reached = 8 ∷ 10 ∷ 11 ∷ 12 ∷ 13 ∷ 14 ∷ 15 ∷ 16 ∷ 18 ∷ 20 ∷ 21 ∷ 22 ∷ 23 ∷ 24 ∷ 25 ∷ 26 ∷ 27 ∷ 28 ∷ 29 ∷ 30 ∷ 31 ∷ [];
+}
