@@ -74,5 +74,5 @@ report_of class = report_with class (alarms_of class)
 
 -- lines and their number are those of these alarms
 pub record AreAlarms (class : ClassFile) (fields : List Member) (found : Alarms) : Type 0 where
-  pub lines : found.lines ≡ alarm_lines class 1 fields
+  pub lines : found.lines.items ≡ alarm_lines class 1 fields
   pub count : found.count ≡ length fields
