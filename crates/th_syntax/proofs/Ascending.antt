@@ -85,16 +85,16 @@ second_within c low high at =
     let methods_long = row_end MemberAt at.methods_begin at.methods_end c.methods at.methods in
     let attributes_long = row_end AttributeAt at.attributes_begin high c.attributes at.attributes in
     let to_methods = both_within at.methods_begin at.attributes_begin high _ _ (up_to at.methods_begin at.methods_end at.attributes_begin methods_long at.before_attributes) attributes_long
-      (wider at.methods_begin at.methods_begin at.methods_end at.attributes_begin _ (same at.methods_begin) at.before_attributes (row_within MemberAt (member_index_flaws c.pool) at.methods_begin at.methods_end c.methods (member_within c.pool) at.methods))
-      (row_within AttributeAt (attribute_index_flaws c.pool) at.attributes_begin high c.attributes (attribute_within c.pool) at.attributes) in
+    (wider at.methods_begin at.methods_begin at.methods_end at.attributes_begin _ (same at.methods_begin) at.before_attributes (row_within MemberAt (member_index_flaws c.pool) at.methods_begin at.methods_end c.methods (member_within c.pool) at.methods))
+    (row_within AttributeAt (attribute_index_flaws c.pool) at.attributes_begin high c.attributes (attribute_within c.pool) at.attributes) in
     let methods_end = up_to at.methods_begin at.attributes_begin high (up_to at.methods_begin at.methods_end at.attributes_begin methods_long at.before_attributes) attributes_long in
     let to_fields = both_within at.fields_begin at.methods_begin high _ _ (up_to at.fields_begin at.fields_end at.methods_begin fields_long at.before_methods) methods_end
-      (wider at.fields_begin at.fields_begin at.fields_end at.methods_begin _ (same at.fields_begin) at.before_methods (row_within MemberAt (member_index_flaws c.pool) at.fields_begin at.fields_end c.fields (member_within c.pool) at.fields))
-      to_methods in
+    (wider at.fields_begin at.fields_begin at.fields_end at.methods_begin _ (same at.fields_begin) at.before_methods (row_within MemberAt (member_index_flaws c.pool) at.fields_begin at.fields_end c.fields (member_within c.pool) at.fields))
+    to_methods in
     let fields_end = up_to at.fields_begin at.methods_begin high (up_to at.fields_begin at.fields_end at.methods_begin fields_long at.before_methods) methods_end in
     let to_interfaces = both_within at.interfaces_begin at.fields_begin high _ _ (up_to at.interfaces_begin at.interfaces_end at.fields_begin interfaces_long at.before_fields) fields_end
-      (wider at.interfaces_begin at.interfaces_begin at.interfaces_end at.fields_begin _ (same at.interfaces_begin) at.before_fields (row_within NumberAt (index_flaws c.pool tag.CLASS) at.interfaces_begin at.interfaces_end c.interfaces (λ i l h n. index_within c.pool tag.CLASS l h i n.0 n.1) at.interfaces))
-      to_fields in
+    (wider at.interfaces_begin at.interfaces_begin at.interfaces_end at.fields_begin _ (same at.interfaces_begin) at.before_fields (row_within NumberAt (index_flaws c.pool tag.CLASS) at.interfaces_begin at.interfaces_end c.interfaces (λ i l h n. index_within c.pool tag.CLASS l h i n.0 n.1) at.interfaces))
+    to_fields in
     let interfaces_end = up_to at.interfaces_begin at.fields_begin high (up_to at.interfaces_begin at.interfaces_end at.fields_begin interfaces_long at.before_fields) fields_end in
     let to_super = both_within c.super_class.at at.interfaces_begin high _ _ (omega arith) interfaces_end (super_within c c.super_class.at at.interfaces_begin (omega arith) interfaces) to_interfaces in
     let super_end : c.super_class.at ≤ high = omega arith in
@@ -174,10 +174,10 @@ parts_within c low high this_list super_list interface_list field_list method_li
     let methods_end = up_to at.methods_begin at.attributes_begin high (up_to at.methods_begin at.methods_end at.attributes_begin methods_long at.before_attributes) attributes_long in
     let to_methods = wider at.methods_begin at.methods_begin at.methods_end high method_list (same at.methods_begin) (up_to at.methods_end at.attributes_begin high at.before_attributes attributes_long) (methods_are at.methods_begin at.methods_end at.methods) in
     let to_fields = both_within at.fields_begin at.methods_begin high field_list method_list (up_to at.fields_begin at.fields_end at.methods_begin fields_long at.before_methods) methods_end
-      (wider at.fields_begin at.fields_begin at.fields_end at.methods_begin field_list (same at.fields_begin) at.before_methods (fields_are at.fields_begin at.fields_end at.fields)) to_methods in
+    (wider at.fields_begin at.fields_begin at.fields_end at.methods_begin field_list (same at.fields_begin) at.before_methods (fields_are at.fields_begin at.fields_end at.fields)) to_methods in
     let fields_end = up_to at.fields_begin at.methods_begin high (up_to at.fields_begin at.fields_end at.methods_begin fields_long at.before_methods) methods_end in
     let to_interfaces = both_within at.interfaces_begin at.fields_begin high interface_list (field_list ++ method_list) (up_to at.interfaces_begin at.interfaces_end at.fields_begin interfaces_long at.before_fields) fields_end
-      (wider at.interfaces_begin at.interfaces_begin at.interfaces_end at.fields_begin interface_list (same at.interfaces_begin) at.before_fields (interfaces_are at.interfaces_begin at.interfaces_end at.interfaces)) to_fields in
+    (wider at.interfaces_begin at.interfaces_begin at.interfaces_end at.fields_begin interface_list (same at.interfaces_begin) at.before_fields (interfaces_are at.interfaces_begin at.interfaces_end at.interfaces)) to_fields in
     let interfaces_end = up_to at.interfaces_begin at.fields_begin high (up_to at.interfaces_begin at.interfaces_end at.fields_begin interfaces_long at.before_fields) fields_end in
     let to_super = both_within c.super_class.at at.interfaces_begin high super_list (interface_list ++ (field_list ++ method_list)) (omega arith) interfaces_end (super_is c.super_class.at at.interfaces_begin (same c.super_class.at) interfaces) to_interfaces in
     let super_end : c.super_class.at ≤ high = omega arith in
@@ -256,8 +256,8 @@ code_within p max_locals start bytes =
     let begin : start + 0 ≡ start = omega arith in
     let end : start + (0 + length bytes) ≡ start + length bytes = omega arith in
     let row : Row (SpelledAt start place_of) start (start + length bytes) (decoded p 0 0 bytes) =
-      subst (λ (l : ℕ). Row (SpelledAt start place_of) l (start + length bytes) (decoded p 0 0 bytes)) begin
-      (subst (λ (h : ℕ). Row (SpelledAt start place_of) (start + 0) h (decoded p 0 0 bytes)) end (decoded_row p start 0 0 bytes)) in
+    subst (λ (l : ℕ). Row (SpelledAt start place_of) l (start + length bytes) (decoded p 0 0 bytes)) begin
+    (subst (λ (h : ℕ). Row (SpelledAt start place_of) (start + 0) h (decoded p 0 0 bytes)) end (decoded_row p start 0 0 bytes)) in
     either_within start (start + length bytes) _ _
     (row_some (SpelledAt start place_of) (instr_flaw max_locals start) start (start + length bytes) (decoded p 0 0 bytes) (λ one l h f. instr_offset max_locals start one l h f) row)
     (flow_within (filter_map instr_of (decoded p 0 0 bytes)) start start (start + length bytes) (filter_map instr_of (decoded p 0 0 bytes)) (instrs_row start start (start + length bytes) (decoded p 0 0 bytes) row))
@@ -300,6 +300,7 @@ constant_within p f low high at = go (has_flag f.access.value ACC_STATIC)
   where
     begin : low ≤ at.behind
     begin = let a : low ≤ f.access.at = at.begin in let b : f.access.at < at.behind = before_attributes f low high at in omega arith
+
     go : (t : Bool) → Within low high (cond t (constant_flaws_of p f (constant_values p f)) [])
     go true =
         wider low at.behind high high _ begin (same high)
@@ -321,10 +322,13 @@ content_within p raw low high at = go (nat_lt 0 raw.length.value && nat_le raw.l
   where
     begin : low ≤ raw.length.at
     begin = at.begin
+
     between : raw.length.at < raw.bytes.at
     between = at.between
+
     end : raw.bytes.at + length raw.bytes.value ≤ high
     end = at.end
+
     go : (t : Bool) → Within low high (cond t (flaws_in p raw.max_locals raw.bytes.at raw.bytes.value) (flaw_at cause.CODE_SHAPE raw.length.at ∷ []))
     go true = wider low raw.bytes.at (raw.bytes.at + length raw.bytes.value) high _ (omega (arith, begin, between)) end (code_within p raw.max_locals raw.bytes.at raw.bytes.value)
     go false = one_within low high (flaw_at cause.CODE_SHAPE raw.length.at) begin (omega (arith, between, end))

@@ -110,9 +110,10 @@ run_place n at bytes found e =
     let long : n ≤ length bytes = ltb-false _ _ t.0 in
     let made : Found (Placed (List ℕ)) = (record { at = at; value = take n bytes }, at + n, drop n bytes) in
     let same : made ≡ found = passed (ltb (length bytes) n) (flaw_at cause.TRUNCATED at) made found e in
-    let len : length (take n bytes) ≡ n = omega (arith, length-take n bytes) in
-    (ap (λ (f : Found (Placed (List ℕ))). f.0.at) (sym same),
-     subst (λ (f : Found (Placed (List ℕ))). at + length f.0.value ≡ f.1) same (ap (λ (k : ℕ). at + k) len))
+    let len : length (take n bytes) ≡ n = omega (arith, length-take n bytes) in (
+      ap (λ (f : Found (Placed (List ℕ))). f.0.at) (sym same),
+      subst (λ (f : Found (Placed (List ℕ))). at + length f.0.value ≡ f.1) same (ap (λ (k : ℕ). at + k) len),
+    )
 
 pub whole_found : {A : Type 0} (x : A) (at : ℕ) (bytes : List ℕ) (found : Found A) → read (whole x) at bytes ≡ Ok found → (found.0 ≡ x) × (found.1 ≡ at)
 whole_found {A = A} x at bytes found e =

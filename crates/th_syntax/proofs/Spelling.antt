@@ -79,7 +79,7 @@ given zero pool max_locals start pc (b ∷ bytes) le e = absurd (omega arith)
 given (suc fuel) pool max_locals start pc (b ∷ bytes) le e =
     by_reading pool max_locals start pc b bytes (read (instruction pool) pc (b ∷ bytes)) refl
     (λ found is. given fuel pool max_locals start found.1 found.2
-      (let ahead = instruction_ahead pool pc (b ∷ bytes) found is in let sum = read_length (instruction pool) pc (b ∷ bytes) found is in omega arith)) e
+    (let ahead = instruction_ahead pool pc (b ∷ bytes) found is in let sum = read_length (instruction pool) pc (b ∷ bytes) found is in omega arith)) e
 
 pub flawless_spelled : (pool : Pool) (max_locals start : ℕ) (bytes : List ℕ) → flaws_in pool max_locals start bytes ≡ [] → AreSpelled pool 0 bytes (instrs_in pool bytes)
 unfolding flaws_in instrs_in
@@ -96,7 +96,7 @@ spelled_front : (pool : Pool) (pc : ℕ) (bytes : List ℕ) (i : Instr) (behind 
     → filter_map instr_of (decoded pool 0 behind others) ≡ instrs → filter_map instr_of (decoded pool 0 pc bytes) ≡ (pc, i) ∷ instrs
 spelled_front pool pc [] i behind others instrs stands later =
     absurd (let sum = read_length (instruction pool) pc [] (instr i, behind, others) (stands_read (instruction pool) pc [] (instr i) behind others stands) in
-      let ahead = instruction_ahead pool pc [] (instr i, behind, others) (stands_read (instruction pool) pc [] (instr i) behind others stands) in omega arith)
+    let ahead = instruction_ahead pool pc [] (instr i, behind, others) (stands_read (instruction pool) pc [] (instr i) behind others stands) in omega arith)
 spelled_front pool pc (b ∷ bytes) i behind others instrs stands later =
     ap (filter_map instr_of) (decoded_ok pool pc b bytes (instr i, behind, others) (stands_read (instruction pool) pc (b ∷ bytes) (instr i) behind others stands))
     ∙ ap (λ (rest : List (ℕ × Instr)). (pc, i) ∷ rest) later

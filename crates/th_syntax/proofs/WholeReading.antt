@@ -75,12 +75,15 @@ passes_flaw bytes c flaw whole e = in_second (first_of (second_pass c)) refl e
     in_value : (value : Option ClassFile) → class_file_of c ≡ value → second_pass c ≡ [] → third_pass c ≡ [] → fourth_pass c ≡ [] → valued value ≡ Err flaw → FirstFlaw bytes flaw
     in_value (Some w) is a b d e = absurd cc
     in_value None is a b d e = absurd (complete c a b d is)
+
     in_fourth : (found : Option Flaw) → first_of (fourth_pass c) ≡ found → second_pass c ≡ [] → third_pass c ≡ [] → unless_flawed found (valued (class_file_of c)) ≡ Err flaw → FirstFlaw bytes flaw
     in_fourth (Some f) is a b e = content c whole a b (subst (IsFirst (fourth_pass c)) (err_is f flaw e) (first_some (fourth_pass c) f is))
     in_fourth None is a b e = in_value (class_file_of c) refl a b (first_none (fourth_pass c) is) e
+
     in_third : (found : Option Flaw) → first_of (third_pass c) ≡ found → second_pass c ≡ [] → unless_flawed found (unless_flawed (first_of (fourth_pass c)) (valued (class_file_of c))) ≡ Err flaw → FirstFlaw bytes flaw
     in_third (Some f) is a e = names c whole a (subst (IsFirst (third_pass c)) (err_is f flaw e) (first_some (third_pass c) f is))
     in_third None is a e = in_fourth (first_of (fourth_pass c)) refl a (first_none (third_pass c) is) e
+
     in_second : (found : Option Flaw) → first_of (second_pass c) ≡ found → unless_flawed found (unless_flawed (first_of (third_pass c)) (unless_flawed (first_of (fourth_pass c)) (valued (class_file_of c)))) ≡ Err flaw → FirstFlaw bytes flaw
     in_second (Some f) is e = indices c whole (subst (IsFirst (second_pass c)) (err_is f flaw e) (first_some (second_pass c) f is))
     in_second None is e = in_third (first_of (third_pass c)) refl (first_none (second_pass c) is) e
@@ -122,6 +125,7 @@ whole_flaw bytes others (Ok found) flaw begins is e = by_rest found.2 refl e
   where
     stands : Stands class_file 4 others found.0 found.1 found.2
     stands = read_stands class_file 4 others found is
+
     by_rest : (rest : List ℕ) → found.2 ≡ rest → cond (eqb (length rest) 0) (checked_class found.0) (Err (flaw_at cause.TRAILING found.1)) ≡ Err flaw → FirstFlaw bytes flaw
     by_rest [] none e =
         passes_flaw bytes found.0 flaw

@@ -20,7 +20,7 @@ use Rattle.th_syntax.specs.WorkedCode.{worked_pool_bytes, worked_pool, worked_ta
 use Rattle.th_syntax.specs.WorkedNames.{worked_names, worked_fields, worked_methods}
 use Rattle.th_syntax.specs.WorkedFiles.{activity_bytes, activity_value, edits, taken_edits, fronts, interfaces_bytes, interfaces_value, interface_edits, constants_bytes, constant_fields, constants_value, refused_fields}
 
-pub pool_entries : read pool 8 worked_pool_bytes ≡ Ok (worked_pool, 215, [])
+pub pool_entries : read pool 8 worked_pool_bytes ≡ Ok (worked_pool, 231, [])
 unfolding ◌>>=◌ read number run demand times counted two_indices two_words text handle content entry slot slots pool attribute member class_file code instruction decoded instrs_in flow_flaws flaws_in code_flaws entry_flaws second_pass third_pass fourth_pass raw_code class_file_of reading base_type name_before element_at type_at field_type_of types_at result_at method_at method_type_of
 pool_entries = refl
 

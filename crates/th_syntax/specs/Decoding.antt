@@ -123,4 +123,4 @@ code_flaws pool code =
 pub data AreSpelled (pool : Pool) : ℕ → List ℕ → List (ℕ × Instr) → Type 0 where
   none : {pc : ℕ} → AreSpelled pool pc [] []
   more : {pc : ℕ} {bytes : List ℕ} (i : Instr) (behind : ℕ) (others : List ℕ) (instrs : List (ℕ × Instr))
-    → Stands (instruction pool) pc bytes (instr i) behind others → AreSpelled pool behind others instrs → AreSpelled pool pc bytes ((pc, i) ∷ instrs)
+      → Stands (instruction pool) pc bytes (instr i) behind others → AreSpelled pool behind others instrs → AreSpelled pool pc bytes ((pc, i) ∷ instrs)

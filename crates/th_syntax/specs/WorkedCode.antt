@@ -64,11 +64,14 @@ worked_entries =
     ∷ (1 ∷ 0 ∷ 0 ∷ [])
     ∷ (7 ∷ 0 ∷ 42 ∷ [])
     ∷ (10 ∷ 0 ∷ 29 ∷ 0 ∷ 13 ∷ [])
+    ∷ (1 ∷ 0 ∷ 3 ∷ codes "a<b")
+    ∷ (12 ∷ 0 ∷ 45 ∷ 0 ∷ 10 ∷ [])
+    ∷ (9 ∷ 0 ∷ 2 ∷ 0 ∷ 46 ∷ [])
     ∷ []
 
 -- the bytes of the pool, from its count on
 abbrev pub worked_pool_bytes : List ℕ
-worked_pool_bytes = 0 ∷ 45 ∷ concat worked_entries
+worked_pool_bytes = 0 ∷ 48 ∷ concat worked_entries
 
 abbrev pub entry_at : ℕ → Entry → Option (Placed Entry)
 entry_at at entry = Some (record { at = at; value = entry })
@@ -121,13 +124,16 @@ worked_pool =
     ∷ entry_at 204 (utf8 [])
     ∷ entry_at 207 (class 42)
     ∷ entry_at 210 (method 29 13)
+    ∷ entry_at 215 (utf8 (codes "a<b"))
+    ∷ entry_at 221 (name_and_type 45 10)
+    ∷ entry_at 226 (field 2 46)
     ∷ []
 
--- the tags of the entries at these indices, and at 0, 6 and 45, which lead to nothing
+-- the tags of the entries at these indices, and at 0, 6 and 48, which lead to nothing
 abbrev pub worked_tags : List (ℕ × Option ℕ)
 worked_tags =
     (0, None) ∷ (1, Some 1) ∷ (2, Some 7) ∷ (3, Some 3) ∷ (4, Some 4) ∷ (5, Some 5) ∷ (6, None) ∷ (7, Some 6) ∷ (9, Some 8) ∷ (12, Some 12) ∷ (14, Some 9)
-    ∷ (15, Some 10) ∷ (16, Some 11) ∷ (17, Some 15) ∷ (18, Some 16) ∷ (19, Some 18) ∷ (45, None) ∷ []
+    ∷ (15, Some 10) ∷ (16, Some 11) ∷ (17, Some 15) ∷ (18, Some 16) ∷ (19, Some 18) ∷ (48, None) ∷ []
 
 -- entries, and whether each of them would lead to entries of the right tags
 abbrev pub worked_references : List (Entry × Bool)
@@ -185,11 +191,13 @@ worked_instrs =
     (160 ∷ 0 ∷ 3 ∷ [], IfInts Ne 140) ∷ (161 ∷ 0 ∷ 3 ∷ [], IfInts Lt 143) ∷ (162 ∷ 0 ∷ 3 ∷ [], IfInts Ge 146) ∷
     (163 ∷ 0 ∷ 3 ∷ [], IfInts Gt 149) ∷ (164 ∷ 0 ∷ 3 ∷ [], IfInts Le 152) ∷ (165 ∷ 0 ∷ 3 ∷ [], IfSame 155) ∷
     (166 ∷ 0 ∷ 3 ∷ [], IfOther 158) ∷ (198 ∷ 0 ∷ 3 ∷ [], IfNull 161) ∷ (199 ∷ 0 ∷ 3 ∷ [], IfNotNull 164) ∷
-    (167 ∷ 255 ∷ 92 ∷ [], Goto 0) ∷
-    (170 ∷ 255 ∷ 255 ∷ 255 ∷ 89 ∷ 255 ∷ 255 ∷ 255 ∷ 255 ∷ 0 ∷ 0 ∷ 0 ∷ 1 ∷ 0 ∷ 0 ∷ 0 ∷ 0 ∷ 255 ∷ 255 ∷ 255 ∷ 89 ∷ 0 ∷ 0 ∷ 0 ∷ 0 ∷ [],
-    TableSwitch (negsuc 0) (167 ∷ 0 ∷ 167 ∷ []) 0) ∷
-    (171 ∷ 9 ∷ 9 ∷ 9 ∷ 255 ∷ 255 ∷ 255 ∷ 64 ∷ 0 ∷ 0 ∷ 0 ∷ 2 ∷ 255 ∷ 255 ∷ 255 ∷ 251 ∷ 0 ∷ 0 ∷ 0 ∷ 0 ∷ 0 ∷ 0 ∷ 0 ∷ 7 ∷ 255 ∷ 255 ∷ 255 ∷ 64 ∷ [],
-    LookupSwitch ((negsuc 4, 192) ∷ (pos 7, 0) ∷ []) 0) ∷
+    (167 ∷ 255 ∷ 92 ∷ [], Goto 0) ∷ (
+      170 ∷ 255 ∷ 255 ∷ 255 ∷ 89 ∷ 255 ∷ 255 ∷ 255 ∷ 255 ∷ 0 ∷ 0 ∷ 0 ∷ 1 ∷ 0 ∷ 0 ∷ 0 ∷ 0 ∷ 255 ∷ 255 ∷ 255 ∷ 89 ∷ 0 ∷ 0 ∷ 0 ∷ 0 ∷ [],
+      TableSwitch (negsuc 0) (167 ∷ 0 ∷ 167 ∷ []) 0,
+    ) ∷ (
+      171 ∷ 9 ∷ 9 ∷ 9 ∷ 255 ∷ 255 ∷ 255 ∷ 64 ∷ 0 ∷ 0 ∷ 0 ∷ 2 ∷ 255 ∷ 255 ∷ 255 ∷ 251 ∷ 0 ∷ 0 ∷ 0 ∷ 0 ∷ 0 ∷ 0 ∷ 0 ∷ 7 ∷ 255 ∷ 255 ∷ 255 ∷ 64 ∷ [],
+      LookupSwitch ((negsuc 4, 192) ∷ (pos 7, 0) ∷ []) 0,
+    ) ∷
     (172 ∷ [], IReturn) ∷ (173 ∷ [], LReturn) ∷ (176 ∷ [], AReturn) ∷ (177 ∷ [], Return) ∷
     (178 ∷ 0 ∷ 14 ∷ [], GetStatic field_a) ∷ (179 ∷ 0 ∷ 14 ∷ [], PutStatic field_a) ∷ (180 ∷ 0 ∷ 14 ∷ [], GetField field_a) ∷
     (181 ∷ 0 ∷ 14 ∷ [], PutField field_a) ∷ (182 ∷ 0 ∷ 15 ∷ [], InvokeVirtual method_a) ∷
@@ -271,8 +279,10 @@ refused_codes =
     -- a switch from 1 to 0, one with -1 pairs, and one with equal keys
     ∷ (170 ∷ 0 ∷ 0 ∷ 0 ∷ 0 ∷ 0 ∷ 0 ∷ 0 ∷ 0 ∷ 0 ∷ 0 ∷ 1 ∷ 0 ∷ 0 ∷ 0 ∷ 0 ∷ 177 ∷ [], flaw_at cause.CODE_SHAPE 100)
     ∷ (171 ∷ 0 ∷ 0 ∷ 0 ∷ 0 ∷ 0 ∷ 0 ∷ 0 ∷ 255 ∷ 255 ∷ 255 ∷ 255 ∷ 177 ∷ [], flaw_at cause.CODE_SHAPE 100)
-    ∷ (171 ∷ 0 ∷ 0 ∷ 0 ∷ 0 ∷ 0 ∷ 0 ∷ 0 ∷ 0 ∷ 0 ∷ 0 ∷ 2 ∷ 0 ∷ 0 ∷ 0 ∷ 1 ∷ 0 ∷ 0 ∷ 0 ∷ 0 ∷ 0 ∷ 0 ∷ 0 ∷ 1 ∷ 0 ∷ 0 ∷ 0 ∷ 0 ∷ 177 ∷ [],
-    flaw_at cause.CODE_SHAPE 100)
+    ∷ (
+      171 ∷ 0 ∷ 0 ∷ 0 ∷ 0 ∷ 0 ∷ 0 ∷ 0 ∷ 0 ∷ 0 ∷ 0 ∷ 2 ∷ 0 ∷ 0 ∷ 0 ∷ 1 ∷ 0 ∷ 0 ∷ 0 ∷ 0 ∷ 0 ∷ 0 ∷ 0 ∷ 1 ∷ 0 ∷ 0 ∷ 0 ∷ 0 ∷ 177 ∷ [],
+      flaw_at cause.CODE_SHAPE 100,
+    )
     -- a default, and a case, that lead into the switch itself
     ∷ (170 ∷ 0 ∷ 0 ∷ 0 ∷ 0 ∷ 0 ∷ 0 ∷ 1 ∷ 0 ∷ 0 ∷ 0 ∷ 0 ∷ 0 ∷ 0 ∷ 0 ∷ 0 ∷ 0 ∷ 0 ∷ 0 ∷ 0 ∷ [], flaw_at cause.CODE_SHAPE 100)
     ∷ (170 ∷ 0 ∷ 0 ∷ 0 ∷ 0 ∷ 0 ∷ 0 ∷ 0 ∷ 0 ∷ 0 ∷ 0 ∷ 0 ∷ 0 ∷ 0 ∷ 0 ∷ 0 ∷ 0 ∷ 0 ∷ 0 ∷ 1 ∷ [], flaw_at cause.CODE_SHAPE 100)
@@ -305,11 +315,14 @@ branch_opcodes = 153 ∷ 154 ∷ 155 ∷ 156 ∷ 157 ∷ 158 ∷ 159 ∷ 160 ∷
 abbrev pub into_operand : ℕ → List ℕ
 into_operand code = code ∷ 0 ∷ 1 ∷ 177 ∷ []
 
--- Code arrays that are taken: with two local variables of which the last is named, and with
--- instructions at the end behind which the next one doesn't follow.
+-- Code arrays that are taken: with two local variables of which the last is named, with a field whose
+-- name has <, with a branch back by four bytes, and with instructions at the end behind which the next one
+-- doesn't follow.
 abbrev pub taken_codes : List (List ℕ)
 taken_codes =
     (21 ∷ 1 ∷ 25 ∷ 1 ∷ 54 ∷ 1 ∷ 58 ∷ 1 ∷ 22 ∷ 0 ∷ 55 ∷ 0 ∷ 132 ∷ 1 ∷ 1 ∷ 177 ∷ [])
+    ∷ (178 ∷ 0 ∷ 47 ∷ 177 ∷ [])
+    ∷ (17 ∷ 0 ∷ 0 ∷ 17 ∷ 0 ∷ 0 ∷ 200 ∷ 255 ∷ 255 ∷ 255 ∷ 250 ∷ [])
     ∷ (167 ∷ 0 ∷ 0 ∷ [])
     ∷ (200 ∷ 0 ∷ 0 ∷ 0 ∷ 0 ∷ [])
     ∷ (170 ∷ 0 ∷ 0 ∷ 0 ∷ 0 ∷ 0 ∷ 0 ∷ 0 ∷ 0 ∷ 0 ∷ 0 ∷ 0 ∷ 0 ∷ 0 ∷ 0 ∷ 0 ∷ 0 ∷ 0 ∷ 0 ∷ 0 ∷ [])

@@ -21,16 +21,16 @@ text_entry text = 1 ∷ 0 ∷ length text ∷ text
 abbrev pub activity_pool : List ℕ
 activity_pool =
     0 ∷ 10 ∷ concat (
-      (7 ∷ 0 ∷ 2 ∷ [])
-      ∷ text_entry (codes "Act")
-      ∷ (7 ∷ 0 ∷ 4 ∷ [])
-      ∷ text_entry (codes "android/app/Activity")
-      ∷ text_entry (codes "<init>")
-      ∷ text_entry (codes "()V")
-      ∷ text_entry (codes "Code")
-      ∷ (10 ∷ 0 ∷ 3 ∷ 0 ∷ 9 ∷ [])
-      ∷ (12 ∷ 0 ∷ 5 ∷ 0 ∷ 6 ∷ [])
-      ∷ [])
+    (7 ∷ 0 ∷ 2 ∷ [])
+    ∷ text_entry (codes "Act")
+    ∷ (7 ∷ 0 ∷ 4 ∷ [])
+    ∷ text_entry (codes "android/app/Activity")
+    ∷ text_entry (codes "<init>")
+    ∷ text_entry (codes "()V")
+    ∷ text_entry (codes "Code")
+    ∷ (10 ∷ 0 ∷ 3 ∷ 0 ∷ 9 ∷ [])
+    ∷ (12 ∷ 0 ∷ 5 ∷ 0 ∷ 6 ∷ [])
+    ∷ [])
 
 -- aload_0, invokespecial, return
 abbrev pub constructor_bytes : List ℕ
@@ -182,25 +182,25 @@ interface_edits = edit 92 2 cause.POOL 91 ∷ edit 16 0x2e cause.NAME 83 ∷ []
 abbrev pub constants_pool : List ℕ
 constants_pool =
     0 ∷ 20 ∷ concat (
-      (7 ∷ 0 ∷ 2 ∷ [])
-      ∷ text_entry (codes "C")
-      ∷ (7 ∷ 0 ∷ 4 ∷ [])
-      ∷ text_entry (codes "java/lang/Object")
-      ∷ text_entry (codes "ConstantValue")
-      ∷ (3 ∷ 255 ∷ 255 ∷ 255 ∷ 249 ∷ [])
-      ∷ (5 ∷ 0 ∷ 0 ∷ 0 ∷ 1 ∷ 0 ∷ 0 ∷ 0 ∷ 2 ∷ [])
-      ∷ (8 ∷ 0 ∷ 10 ∷ [])
-      ∷ text_entry (codes "text")
-      ∷ text_entry (codes "Z")
-      ∷ text_entry (codes "B")
-      ∷ text_entry (codes "C")
-      ∷ text_entry (codes "S")
-      ∷ text_entry (codes "I")
-      ∷ text_entry (codes "J")
-      ∷ text_entry (codes "Ljava/lang/String;")
-      ∷ text_entry (codes "Ljava/lang/Object;")
-      ∷ text_entry (codes "[I")
-      ∷ [])
+    (7 ∷ 0 ∷ 2 ∷ [])
+    ∷ text_entry (codes "C")
+    ∷ (7 ∷ 0 ∷ 4 ∷ [])
+    ∷ text_entry (codes "java/lang/Object")
+    ∷ text_entry (codes "ConstantValue")
+    ∷ (3 ∷ 255 ∷ 255 ∷ 255 ∷ 249 ∷ [])
+    ∷ (5 ∷ 0 ∷ 0 ∷ 0 ∷ 1 ∷ 0 ∷ 0 ∷ 0 ∷ 2 ∷ [])
+    ∷ (8 ∷ 0 ∷ 10 ∷ [])
+    ∷ text_entry (codes "text")
+    ∷ text_entry (codes "Z")
+    ∷ text_entry (codes "B")
+    ∷ text_entry (codes "C")
+    ∷ text_entry (codes "S")
+    ∷ text_entry (codes "I")
+    ∷ text_entry (codes "J")
+    ∷ text_entry (codes "Ljava/lang/String;")
+    ∷ text_entry (codes "Ljava/lang/Object;")
+    ∷ text_entry (codes "[I")
+    ∷ [])
 
 -- a ConstantValue attribute
 abbrev pub value_bytes : ℕ → List ℕ
@@ -239,16 +239,16 @@ constants_value = record {
   super_name = Some (codes "java/lang/Object");
   interfaces = [];
   fields =
-    field_of 8 (codes "Z") (Some (constant.Int (negsuc 6)))
-    ∷ field_of 8 (codes "B") (Some (constant.Int (negsuc 6)))
-    ∷ field_of 8 (codes "C") (Some (constant.Int (negsuc 6)))
-    ∷ field_of 8 (codes "S") (Some (constant.Int (negsuc 6)))
-    ∷ field_of 8 (codes "I") (Some (constant.Int (negsuc 6)))
-    ∷ field_of 8 (codes "J") (Some (constant.Long (pos 4294967298)))
-    ∷ field_of 8 (codes "Ljava/lang/String;") (Some (constant.Str (codes "text")))
-    ∷ field_of 8 (codes "Ljava/lang/Object;") None
-    ∷ field_of 0 (codes "[I") None
-    ∷ [];
+      field_of 8 (codes "Z") (Some (constant.Int (negsuc 6)))
+      ∷ field_of 8 (codes "B") (Some (constant.Int (negsuc 6)))
+      ∷ field_of 8 (codes "C") (Some (constant.Int (negsuc 6)))
+      ∷ field_of 8 (codes "S") (Some (constant.Int (negsuc 6)))
+      ∷ field_of 8 (codes "I") (Some (constant.Int (negsuc 6)))
+      ∷ field_of 8 (codes "J") (Some (constant.Long (pos 4294967298)))
+      ∷ field_of 8 (codes "Ljava/lang/String;") (Some (constant.Str (codes "text")))
+      ∷ field_of 8 (codes "Ljava/lang/Object;") None
+      ∷ field_of 0 (codes "[I") None
+      ∷ [];
   methods = [];
 }
 

@@ -18,7 +18,7 @@ ghost use Rattle.th_syntax.specs.WorkedNames.{worked_names, worked_fields, worke
 
 /// A pool with an entry of each tag is read as these entries, which have these tags.
 pub fn pool_is_read()
-    ensures entries { read pool 8 worked_pool_bytes ≡ Ok (worked_pool, 215, []) }
+    ensures entries { read pool 8 worked_pool_bytes ≡ Ok (worked_pool, 231, []) }
     ensures flawless { entry_flaws worked_pool ≡ [] }
     ensures tags { map (λ one. tag_at worked_pool one.0) worked_tags ≡ map (λ one. one.1) worked_tags }
 {}
