@@ -1,6 +1,6 @@
 -- The register form, by hand, of the Activity that stores itself when it is created, under the
 -- lifecycle's chart.
-use Rattle.std.specs.Prelude.{List, [], ◌∷◌, ◌++◌, None, ℕ, codes, pos}
+use Rattle.std.specs.Prelude.{List, [], ◌∷◌, ◌++◌, None, ℕ, codes, pos, Some, slice_get, ◌≡◌}
 use Rattle.th_ir.specs.declared.program.RegProgram.{RegProgram}
 use Rattle.th_ir.specs.declared.program.Place.TheVariants.{Launch, Event}
 use Rattle.th_ir.specs.declared.stmt.CallKind.TheVariants.{Virtual}
@@ -8,6 +8,10 @@ use Rattle.th_ir.specs.declared.stmt.Condition.TheVariants.{Key}
 use Rattle.th_ir.specs.declared.stmt.Stmt.TheVariants.{Nop, Const, Null, Assume, PutStatic, GetField, PutField, New, Call, Init, Return, Pick}
 use Rattle.th_ir.specs.Fields.{stage_field}
 use Rattle.th_ir.specs.Harness.{to}
+use Rattle.th_ir.specs.Machine.{RegState, Address, IntValue, RegObject, field_value, new_object, initial_state}
+use Rattle.th_ir.specs.Effects.{Sets, SetsStatic, SetsField, Makes, Enters, Leaves}
+use Rattle.th_ir.specs.WorkedStoring.{storing_classes}
+use Rattle.th_ir.specs.Applied.{stepped, started}
 use Rattle.th_ir.specs.Worked.{reg, site, node, own, harness_method, call_special, built_in_methods, built_in_nodes, built_in_refs}
 
 abbrev pub charted_program : RegProgram
@@ -136,3 +140,114 @@ charted_program = record {
   ints = [];
   strings = [];
 }
+
+-- ---- a run
+
+abbrev pub charted_0 : RegState
+charted_0 = initial_state storing_classes charted_program
+
+abbrev pub charted_1 : RegState
+charted_1 = started charted_program charted_0 19
+
+abbrev pub charted_2 : RegState
+charted_2 = stepped charted_program charted_1 (Sets []) 0
+
+abbrev pub charted_3 : RegState
+charted_3 = stepped charted_program charted_2 (Makes 22 (new_object storing_classes 11 0)) 0
+
+abbrev pub charted_4 : RegState
+charted_4 = stepped charted_program charted_3 (Enters 17 (Address 0 ∷ [])) 0
+
+abbrev pub charted_5 : RegState
+charted_5 = stepped charted_program charted_4 (Sets []) 0
+
+abbrev pub charted_6 : RegState
+charted_6 = stepped charted_program charted_5 (Enters 8 (Address 0 ∷ [])) 0
+
+abbrev pub charted_7 : RegState
+charted_7 = stepped charted_program charted_6 (Leaves None) 0
+
+abbrev pub charted_8 : RegState
+charted_8 = stepped charted_program charted_7 (Leaves None) 0
+
+abbrev pub charted_9 : RegState
+charted_9 = stepped charted_program charted_8 (Leaves None) 0
+
+abbrev pub charted_10 : RegState
+charted_10 = started charted_program charted_9 20
+
+abbrev pub charted_11 : RegState
+charted_11 = stepped charted_program charted_10 (Sets ((23, Address 0) ∷ [])) 0
+
+abbrev pub charted_12 : RegState
+charted_12 = stepped charted_program charted_11 (Sets ((24, IntValue (pos 0)) ∷ [])) 0
+
+abbrev pub charted_13 : RegState
+charted_13 = stepped charted_program charted_12 (Sets []) 0
+
+abbrev pub charted_14 : RegState
+charted_14 = stepped charted_program charted_13 (Sets ((25, IntValue (pos 1)) ∷ [])) 0
+
+abbrev pub charted_15 : RegState
+charted_15 = stepped charted_program charted_14 (SetsField 0 stage_field (IntValue (pos 1))) 1
+
+abbrev pub charted_16 : RegState
+charted_16 = stepped charted_program charted_15 (Makes 26 (new_object storing_classes 8 1)) 0
+
+abbrev pub charted_17 : RegState
+charted_17 = stepped charted_program charted_16 (Enters 18 (Address 0 ∷ Address 1 ∷ [])) 0
+
+abbrev pub charted_18 : RegState
+charted_18 = stepped charted_program charted_17 (Sets []) 0
+
+abbrev pub charted_19 : RegState
+charted_19 = stepped charted_program charted_18 (SetsStatic 0 (Address 0)) 0
+
+abbrev pub charted_20 : RegState
+charted_20 = stepped charted_program charted_19 (Leaves None) 0
+
+abbrev pub charted_21 : RegState
+charted_21 = stepped charted_program charted_20 (Leaves None) 0
+
+abbrev pub charted_22 : RegState
+charted_22 = started charted_program charted_21 21
+
+abbrev pub charted_23 : RegState
+charted_23 = stepped charted_program charted_22 (Sets ((27, Address 0) ∷ [])) 0
+
+abbrev pub charted_24 : RegState
+charted_24 = stepped charted_program charted_23 (Sets ((28, IntValue (pos 1)) ∷ [])) 0
+
+abbrev pub charted_25 : RegState
+charted_25 = stepped charted_program charted_24 (Sets []) 0
+
+abbrev pub charted_26 : RegState
+charted_26 = stepped charted_program charted_25 (Sets ((29, IntValue (pos 2)) ∷ [])) 0
+
+abbrev pub charted_27 : RegState
+charted_27 = stepped charted_program charted_26 (SetsField 0 stage_field (IntValue (pos 2))) 0
+
+abbrev pub charted_28 : RegState
+charted_28 = stepped charted_program charted_27 (Enters 10 (Address 0 ∷ [])) 0
+
+abbrev pub charted_29 : RegState
+charted_29 = stepped charted_program charted_28 (Leaves None) 0
+
+abbrev pub charted_30 : RegState
+charted_30 = stepped charted_program charted_29 (Leaves None) 0
+
+-- ---- a handler that the stage does not allow
+
+-- started before it is created
+abbrev pub refused_1 : RegState
+refused_1 = started charted_program charted_9 21
+
+abbrev pub refused_2 : RegState
+refused_2 = stepped charted_program refused_1 (Sets ((27, Address 0) ∷ [])) 0
+
+abbrev pub refused_3 : RegState
+refused_3 = stepped charted_program refused_2 (Sets ((28, IntValue (pos 0)) ∷ [])) 0
+
+-- the object at the address is at this stage
+abbrev pub IsAtStage : RegState → ℕ → ℕ → Type 0
+IsAtStage s a stage = (o : RegObject) × (slice_get s.heap a ≡ Some o) × (field_value stage_field o.contents ≡ Some (IntValue (pos stage)))

@@ -9,6 +9,9 @@ use Rattle.th_ir.specs.declared.program.Place.TheVariants.{Launch, Event, Code}
 use Rattle.th_ir.specs.declared.stmt.CallKind.TheVariants.{Virtual, Static}
 use Rattle.th_ir.specs.declared.stmt.Stmt.TheVariants.{Nop, Null, PutStatic, New, Call, Init, Return, Pick}
 use Rattle.th_ir.specs.Harness.{to}
+use Rattle.th_ir.specs.Machine.{RegState, NullValue, Address, new_object, initial_state}
+use Rattle.th_ir.specs.Effects.{Sets, SetsStatic, Makes, Enters, Leaves}
+use Rattle.th_ir.specs.Applied.{stepped, started}
 use Rattle.th_ir.specs.Worked.{class_info, field_info, method_info, static_method_info, reg, site, node, own, harness_method, call_special, built_in_methods, built_in_nodes, built_in_refs, no_sites, call_of}
 
 -- the classes of the files, and all classes
@@ -142,3 +145,104 @@ initialising_facts = record {
       [];
   reached = 8 ∷ 10 ∷ 11 ∷ 12 ∷ 13 ∷ 14 ∷ 15 ∷ 16 ∷ 18 ∷ 20 ∷ 21 ∷ 22 ∷ 23 ∷ 24 ∷ 25 ∷ 26 ∷ 27 ∷ 28 ∷ 29 ∷ 30 ∷ 31 ∷ [];
 }
+
+-- ---- a run
+
+abbrev pub initialising_0 : RegState
+initialising_0 = initial_state initialising_classes initialising_program
+
+abbrev pub initialising_1 : RegState
+initialising_1 = started initialising_program initialising_0 23
+
+abbrev pub initialising_2 : RegState
+initialising_2 = stepped initialising_program initialising_1 (Sets []) 0
+
+abbrev pub initialising_3 : RegState
+initialising_3 = stepped initialising_program initialising_2 (Makes 25 (new_object initialising_classes 13 0)) 0
+
+abbrev pub initialising_4 : RegState
+initialising_4 = stepped initialising_program initialising_3 (Enters 21 (Address 0 ∷ [])) 0
+
+abbrev pub initialising_5 : RegState
+initialising_5 = stepped initialising_program initialising_4 (Sets []) 0
+
+abbrev pub initialising_6 : RegState
+initialising_6 = stepped initialising_program initialising_5 (Enters 8 (Address 0 ∷ [])) 0
+
+abbrev pub initialising_7 : RegState
+initialising_7 = stepped initialising_program initialising_6 (Leaves None) 0
+
+abbrev pub initialising_8 : RegState
+initialising_8 = stepped initialising_program initialising_7 (Leaves None) 0
+
+abbrev pub initialising_9 : RegState
+initialising_9 = stepped initialising_program initialising_8 (Leaves None) 0
+
+abbrev pub initialising_10 : RegState
+initialising_10 = started initialising_program initialising_9 24
+
+abbrev pub initialising_11 : RegState
+initialising_11 = stepped initialising_program initialising_10 (Sets ((26, Address 0) ∷ [])) 0
+
+abbrev pub initialising_12 : RegState
+initialising_12 = stepped initialising_program initialising_11 (Sets ((27, NullValue) ∷ [])) 0
+
+abbrev pub initialising_13 : RegState
+initialising_13 = stepped initialising_program initialising_12 (Enters 22 (Address 0 ∷ NullValue ∷ [])) 0
+
+abbrev pub initialising_14 : RegState
+initialising_14 = stepped initialising_program initialising_13 (Enters 18 []) 0
+
+abbrev pub initialising_15 : RegState
+initialising_15 = stepped initialising_program initialising_14 (Sets []) 0
+
+abbrev pub initialising_16 : RegState
+initialising_16 = stepped initialising_program initialising_15 (Enters 20 []) 0
+
+abbrev pub initialising_17 : RegState
+initialising_17 = stepped initialising_program initialising_16 (Leaves None) 0
+
+abbrev pub initialising_18 : RegState
+initialising_18 = stepped initialising_program initialising_17 (Sets []) 0
+
+abbrev pub initialising_19 : RegState
+initialising_19 = stepped initialising_program initialising_18 (Makes 20 (new_object initialising_classes 13 2)) 0
+
+abbrev pub initialising_20 : RegState
+initialising_20 = stepped initialising_program initialising_19 (Sets []) 0
+
+abbrev pub initialising_21 : RegState
+initialising_21 = stepped initialising_program initialising_20 (Enters 21 (Address 1 ∷ [])) 0
+
+abbrev pub initialising_22 : RegState
+initialising_22 = stepped initialising_program initialising_21 (Sets []) 0
+
+abbrev pub initialising_23 : RegState
+initialising_23 = stepped initialising_program initialising_22 (Enters 8 (Address 1 ∷ [])) 0
+
+abbrev pub initialising_24 : RegState
+initialising_24 = stepped initialising_program initialising_23 (Leaves None) 0
+
+abbrev pub initialising_25 : RegState
+initialising_25 = stepped initialising_program initialising_24 (Leaves None) 0
+
+abbrev pub initialising_26 : RegState
+initialising_26 = stepped initialising_program initialising_25 (SetsStatic 0 (Address 1)) 0
+
+abbrev pub initialising_27 : RegState
+initialising_27 = stepped initialising_program initialising_26 (Leaves None) 0
+
+abbrev pub initialising_28 : RegState
+initialising_28 = stepped initialising_program initialising_27 (Sets []) 0
+
+abbrev pub initialising_29 : RegState
+initialising_29 = stepped initialising_program initialising_28 (Enters 20 []) 0
+
+abbrev pub initialising_30 : RegState
+initialising_30 = stepped initialising_program initialising_29 (Leaves None) 0
+
+abbrev pub initialising_31 : RegState
+initialising_31 = stepped initialising_program initialising_30 (Leaves None) 0
+
+abbrev pub initialising_32 : RegState
+initialising_32 = stepped initialising_program initialising_31 (Leaves None) 0

@@ -9,6 +9,9 @@ use Rattle.th_ir.specs.declared.program.Place.TheVariants.{Str as StringConstant
 use Rattle.th_ir.specs.declared.stmt.CallKind.TheVariants.{Virtual}
 use Rattle.th_ir.specs.declared.stmt.Stmt.TheVariants.{Nop, Null, Str, PutStatic, New, Call, Init, Return, Pick}
 use Rattle.th_ir.specs.Harness.{to}
+use Rattle.th_ir.specs.Machine.{RegState, Address, new_object, initial_state}
+use Rattle.th_ir.specs.Effects.{Sets, SetsStatic, Makes, Enters, Leaves}
+use Rattle.th_ir.specs.Applied.{stepped, started}
 use Rattle.th_ir.specs.Worked.{class_info, field_info, method_info, static_method_info, reg, site, node, own, harness_method, call_special, built_in_methods, built_in_nodes, built_in_refs, no_sites, call_of}
 
 -- the classes of the files, and all classes
@@ -111,3 +114,47 @@ naming_facts = record {
       [];
   reached = 8 ∷ 9 ∷ 10 ∷ 11 ∷ 12 ∷ 13 ∷ 14 ∷ 15 ∷ 16 ∷ 17 ∷ 18 ∷ 19 ∷ 20 ∷ 21 ∷ 22 ∷ 23 ∷ 24 ∷ 25 ∷ 26 ∷ 27 ∷ [];
 }
+
+-- ---- a run
+
+abbrev pub naming_0 : RegState
+naming_0 = initial_state naming_classes naming_program
+
+abbrev pub naming_1 : RegState
+naming_1 = started naming_program naming_0 19
+
+abbrev pub naming_2 : RegState
+naming_2 = stepped naming_program naming_1 (Enters 18 []) 0
+
+abbrev pub naming_3 : RegState
+naming_3 = stepped naming_program naming_2 (Sets ((20, Address 0) ∷ [])) 0
+
+abbrev pub naming_4 : RegState
+naming_4 = stepped naming_program naming_3 (SetsStatic 0 (Address 0)) 0
+
+abbrev pub naming_5 : RegState
+naming_5 = stepped naming_program naming_4 (Leaves None) 0
+
+abbrev pub naming_6 : RegState
+naming_6 = stepped naming_program naming_5 (Sets []) 0
+
+abbrev pub naming_7 : RegState
+naming_7 = stepped naming_program naming_6 (Makes 21 (new_object naming_classes 11 1)) 0
+
+abbrev pub naming_8 : RegState
+naming_8 = stepped naming_program naming_7 (Enters 17 (Address 1 ∷ [])) 0
+
+abbrev pub naming_9 : RegState
+naming_9 = stepped naming_program naming_8 (Sets []) 0
+
+abbrev pub naming_10 : RegState
+naming_10 = stepped naming_program naming_9 (Enters 8 (Address 1 ∷ [])) 0
+
+abbrev pub naming_11 : RegState
+naming_11 = stepped naming_program naming_10 (Leaves None) 0
+
+abbrev pub naming_12 : RegState
+naming_12 = stepped naming_program naming_11 (Leaves None) 0
+
+abbrev pub naming_13 : RegState
+naming_13 = stepped naming_program naming_12 (Leaves None) 0

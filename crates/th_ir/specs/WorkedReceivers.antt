@@ -1,6 +1,6 @@
 -- A small program by hand: an Activity stores objects of a class and of its subclass into an array,
 -- reads one and calls a method on it that both declare, and keeps what it returns.
-use Rattle.std.specs.Prelude.{List, [], ◌∷◌, ◌++◌, None, ℕ, codes, true, pos, Some}
+use Rattle.std.specs.Prelude.{List, [], ◌∷◌, ◌++◌, None, ℕ, codes, true, pos, Some, slice_get, ◌≡◌}
 use Rattle.th_base.specs.declared.class.ClassInfo.{ClassInfo}
 use Rattle.th_base.specs.declared.operation.Elem.TheVariants.{Ref}
 use Rattle.th_base.specs.BuiltIn.{built_in_classes}
@@ -10,6 +10,9 @@ use Rattle.th_ir.specs.declared.program.Place.TheVariants.{Launch, Event, Code}
 use Rattle.th_ir.specs.declared.stmt.CallKind.TheVariants.{Virtual}
 use Rattle.th_ir.specs.declared.stmt.Stmt.TheVariants.{Nop, Const, Null, PutStatic, GetElem, PutElem, New, NewArray, Call, Init, Return, Pick}
 use Rattle.th_ir.specs.Harness.{to}
+use Rattle.th_ir.specs.Machine.{RegState, RegValue, NullValue, Address, IntValue, RegObject, new_object, initial_state, Array}
+use Rattle.th_ir.specs.Effects.{Sets, SetsStatic, SetsElement, Makes, Enters, Leaves, new_array}
+use Rattle.th_ir.specs.Applied.{stepped, started}
 use Rattle.th_ir.specs.Worked.{class_info, field_info, method_info, reg, site, node, own, harness_method, call_special, built_in_methods, built_in_nodes, built_in_refs, no_sites, call_of}
 
 -- the classes of the files, and all classes
@@ -162,3 +165,162 @@ receivers_facts = record {
       [];
   reached = 0 ∷ 8 ∷ 10 ∷ 11 ∷ 12 ∷ 13 ∷ 14 ∷ 15 ∷ 16 ∷ 17 ∷ 18 ∷ 19 ∷ 20 ∷ 21 ∷ 22 ∷ 23 ∷ 24 ∷ 25 ∷ 26 ∷ 27 ∷ 28 ∷ 29 ∷ 30 ∷ 31 ∷ [];
 }
+
+-- ---- a run
+
+abbrev pub receivers_0 : RegState
+receivers_0 = initial_state receivers_classes receivers_program
+
+abbrev pub receivers_1 : RegState
+receivers_1 = started receivers_program receivers_0 23
+
+abbrev pub receivers_2 : RegState
+receivers_2 = stepped receivers_program receivers_1 (Sets []) 0
+
+abbrev pub receivers_3 : RegState
+receivers_3 = stepped receivers_program receivers_2 (Makes 35 (new_object receivers_classes 13 0)) 0
+
+abbrev pub receivers_4 : RegState
+receivers_4 = stepped receivers_program receivers_3 (Enters 21 (Address 0 ∷ [])) 0
+
+abbrev pub receivers_5 : RegState
+receivers_5 = stepped receivers_program receivers_4 (Sets []) 0
+
+abbrev pub receivers_6 : RegState
+receivers_6 = stepped receivers_program receivers_5 (Enters 8 (Address 0 ∷ [])) 0
+
+abbrev pub receivers_7 : RegState
+receivers_7 = stepped receivers_program receivers_6 (Leaves None) 0
+
+abbrev pub receivers_8 : RegState
+receivers_8 = stepped receivers_program receivers_7 (Leaves None) 0
+
+abbrev pub receivers_9 : RegState
+receivers_9 = stepped receivers_program receivers_8 (Leaves None) 0
+
+abbrev pub receivers_10 : RegState
+receivers_10 = started receivers_program receivers_9 24
+
+abbrev pub receivers_11 : RegState
+receivers_11 = stepped receivers_program receivers_10 (Sets ((36, Address 0) ∷ [])) 0
+
+abbrev pub receivers_12 : RegState
+receivers_12 = stepped receivers_program receivers_11 (Sets ((37, NullValue) ∷ [])) 0
+
+abbrev pub receivers_13 : RegState
+receivers_13 = stepped receivers_program receivers_12 (Enters 22 (Address 0 ∷ NullValue ∷ [])) 0
+
+abbrev pub receivers_14 : RegState
+receivers_14 = stepped receivers_program receivers_13 (Sets ((26, IntValue (pos 2)) ∷ [])) 0
+
+abbrev pub receivers_15 : RegState
+receivers_15 = stepped receivers_program receivers_14 (Makes 27 (new_array receivers_program 2 2)) 0
+
+abbrev pub receivers_16 : RegState
+receivers_16 = stepped receivers_program receivers_15 (Sets []) 0
+
+abbrev pub receivers_17 : RegState
+receivers_17 = stepped receivers_program receivers_16 (Sets []) 0
+
+abbrev pub receivers_18 : RegState
+receivers_18 = stepped receivers_program receivers_17 (Sets ((28, IntValue (pos 0)) ∷ [])) 0
+
+abbrev pub receivers_19 : RegState
+receivers_19 = stepped receivers_program receivers_18 (Sets []) 0
+
+abbrev pub receivers_20 : RegState
+receivers_20 = stepped receivers_program receivers_19 (Makes 29 (new_object receivers_classes 11 3)) 0
+
+abbrev pub receivers_21 : RegState
+receivers_21 = stepped receivers_program receivers_20 (Sets []) 0
+
+abbrev pub receivers_22 : RegState
+receivers_22 = stepped receivers_program receivers_21 (Enters 17 (Address 2 ∷ [])) 0
+
+abbrev pub receivers_23 : RegState
+receivers_23 = stepped receivers_program receivers_22 (Sets []) 0
+
+abbrev pub receivers_24 : RegState
+receivers_24 = stepped receivers_program receivers_23 (Enters 0 (Address 2 ∷ [])) 0
+
+abbrev pub receivers_25 : RegState
+receivers_25 = stepped receivers_program receivers_24 (Leaves None) 0
+
+abbrev pub receivers_26 : RegState
+receivers_26 = stepped receivers_program receivers_25 (Leaves None) 0
+
+abbrev pub receivers_27 : RegState
+receivers_27 = stepped receivers_program receivers_26 (SetsElement 1 0 (Address 2)) 0
+
+abbrev pub receivers_28 : RegState
+receivers_28 = stepped receivers_program receivers_27 (Sets []) 0
+
+abbrev pub receivers_29 : RegState
+receivers_29 = stepped receivers_program receivers_28 (Sets ((30, IntValue (pos 1)) ∷ [])) 0
+
+abbrev pub receivers_30 : RegState
+receivers_30 = stepped receivers_program receivers_29 (Sets []) 0
+
+abbrev pub receivers_31 : RegState
+receivers_31 = stepped receivers_program receivers_30 (Makes 31 (new_object receivers_classes 12 4)) 0
+
+abbrev pub receivers_32 : RegState
+receivers_32 = stepped receivers_program receivers_31 (Sets []) 0
+
+abbrev pub receivers_33 : RegState
+receivers_33 = stepped receivers_program receivers_32 (Enters 19 (Address 3 ∷ [])) 0
+
+abbrev pub receivers_34 : RegState
+receivers_34 = stepped receivers_program receivers_33 (Sets []) 0
+
+abbrev pub receivers_35 : RegState
+receivers_35 = stepped receivers_program receivers_34 (Enters 17 (Address 3 ∷ [])) 0
+
+abbrev pub receivers_36 : RegState
+receivers_36 = stepped receivers_program receivers_35 (Sets []) 0
+
+abbrev pub receivers_37 : RegState
+receivers_37 = stepped receivers_program receivers_36 (Enters 0 (Address 3 ∷ [])) 0
+
+abbrev pub receivers_38 : RegState
+receivers_38 = stepped receivers_program receivers_37 (Leaves None) 0
+
+abbrev pub receivers_39 : RegState
+receivers_39 = stepped receivers_program receivers_38 (Leaves None) 0
+
+abbrev pub receivers_40 : RegState
+receivers_40 = stepped receivers_program receivers_39 (Leaves None) 0
+
+abbrev pub receivers_41 : RegState
+receivers_41 = stepped receivers_program receivers_40 (SetsElement 1 1 (Address 3)) 0
+
+abbrev pub receivers_42 : RegState
+receivers_42 = stepped receivers_program receivers_41 (Sets []) 0
+
+abbrev pub receivers_43 : RegState
+receivers_43 = stepped receivers_program receivers_42 (Sets ((32, IntValue (pos 1)) ∷ [])) 0
+
+abbrev pub receivers_44 : RegState
+receivers_44 = stepped receivers_program receivers_43 (Sets ((33, Address 3) ∷ [])) 0
+
+abbrev pub receivers_45 : RegState
+receivers_45 = stepped receivers_program receivers_44 (Enters 20 (Address 3 ∷ [])) 0
+
+abbrev pub receivers_46 : RegState
+receivers_46 = stepped receivers_program receivers_45 (Sets []) 0
+
+abbrev pub receivers_47 : RegState
+receivers_47 = stepped receivers_program receivers_46 (Leaves (Some 22)) 0
+
+abbrev pub receivers_48 : RegState
+receivers_48 = stepped receivers_program receivers_47 (SetsStatic 0 (Address 3)) 0
+
+abbrev pub receivers_49 : RegState
+receivers_49 = stepped receivers_program receivers_48 (Leaves None) 0
+
+abbrev pub receivers_50 : RegState
+receivers_50 = stepped receivers_program receivers_49 (Leaves None) 0
+
+-- the object at the address is an array with these elements
+abbrev pub HoldsElements : RegState → ℕ → List RegValue → Type 0
+HoldsElements s a elements = (o : RegObject) × (slice_get s.heap a ≡ Some o) × (o.contents ≡ Array elements)

@@ -7,8 +7,12 @@ use Rattle.th_ir.specs.declared.facts.Facts.{Facts}
 use Rattle.th_ir.specs.declared.program.RegProgram.{RegProgram}
 use Rattle.th_ir.specs.declared.program.Place.TheVariants.{Launch, Event}
 use Rattle.th_ir.specs.declared.stmt.CallKind.TheVariants.{Virtual}
+use Rattle.th_ir.specs.declared.stmt.Stmt.{Stmt}
 use Rattle.th_ir.specs.declared.stmt.Stmt.TheVariants.{Nop, Null, PutStatic, New, Call, Init, Return, Pick}
 use Rattle.th_ir.specs.Harness.{to}
+use Rattle.th_ir.specs.Machine.{RegState, NullValue, Address, new_object, initial_state}
+use Rattle.th_ir.specs.Effects.{Sets, SetsStatic, Makes, Enters, Leaves}
+use Rattle.th_ir.specs.Applied.{stepped, started}
 use Rattle.th_ir.specs.Worked.{class_info, field_info, method_info, reg, site, node, own, harness_method, call_special, built_in_methods, built_in_nodes, built_in_refs, no_sites, call_of}
 
 -- the classes of the files, and all classes
@@ -111,3 +115,68 @@ storing_facts = record {
       [];
   reached = 8 ∷ 10 ∷ 11 ∷ 12 ∷ 13 ∷ 14 ∷ 15 ∷ 16 ∷ 17 ∷ 18 ∷ 19 ∷ 20 ∷ 21 ∷ 22 ∷ 23 ∷ 24 ∷ 25 ∷ 26 ∷ 27 ∷ [];
 }
+
+-- ---- a run
+
+abbrev pub storing_0 : RegState
+storing_0 = initial_state storing_classes storing_program
+
+abbrev pub storing_1 : RegState
+storing_1 = started storing_program storing_0 19
+
+abbrev pub storing_2 : RegState
+storing_2 = stepped storing_program storing_1 (Sets []) 0
+
+abbrev pub storing_3 : RegState
+storing_3 = stepped storing_program storing_2 (Makes 22 (new_object storing_classes 11 0)) 0
+
+abbrev pub storing_4 : RegState
+storing_4 = stepped storing_program storing_3 (Enters 17 (Address 0 ∷ [])) 0
+
+abbrev pub storing_5 : RegState
+storing_5 = stepped storing_program storing_4 (Sets []) 0
+
+abbrev pub storing_6 : RegState
+storing_6 = stepped storing_program storing_5 (Enters 8 (Address 0 ∷ [])) 0
+
+abbrev pub storing_7 : RegState
+storing_7 = stepped storing_program storing_6 (Leaves None) 0
+
+abbrev pub storing_8 : RegState
+storing_8 = stepped storing_program storing_7 (Leaves None) 0
+
+abbrev pub storing_9 : RegState
+storing_9 = stepped storing_program storing_8 (Leaves None) 0
+
+abbrev pub storing_10 : RegState
+storing_10 = started storing_program storing_9 20
+
+abbrev pub storing_11 : RegState
+storing_11 = stepped storing_program storing_10 (Sets ((23, Address 0) ∷ [])) 0
+
+abbrev pub storing_12 : RegState
+storing_12 = stepped storing_program storing_11 (Sets ((24, NullValue) ∷ [])) 0
+
+abbrev pub storing_13 : RegState
+storing_13 = stepped storing_program storing_12 (Enters 18 (Address 0 ∷ NullValue ∷ [])) 0
+
+abbrev pub storing_14 : RegState
+storing_14 = stepped storing_program storing_13 (Sets []) 0
+
+abbrev pub storing_15 : RegState
+storing_15 = stepped storing_program storing_14 (SetsStatic 0 (Address 0)) 0
+
+abbrev pub storing_16 : RegState
+storing_16 = stepped storing_program storing_15 (Leaves None) 0
+
+abbrev pub storing_17 : RegState
+storing_17 = stepped storing_program storing_16 (Leaves None) 0
+
+-- ---- a state that no run reaches
+
+-- where the address of a Bundle is listed as launched
+abbrev pub of_a_bundle : RegState
+of_a_bundle = record (initial_state storing_classes storing_program) { heap = new_object storing_classes 8 1 ∷ []; launched = 0 ∷ [] }
+
+abbrev pub picks : Stmt
+picks = Pick (reg 23) record { 0 = 11 }
