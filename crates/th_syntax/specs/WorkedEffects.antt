@@ -158,6 +158,11 @@ moving =
     ∷ on_locals (i 1 ∷ i 2 ∷ []) (l 9) (LStore 0) (GoesOn (Holds (long 9) ∷ SecondHalf ∷ []) [])
     ∷ on_locals (i 1 ∷ []) (at 3 ∷ []) (AStore 0) (GoesOn (at 3 ∷ []) [])
     ∷ on_locals (i 1 ∷ []) (i 3 ∷ []) (AStore 0) Stuck
+    ∷ on_locals (i 1 ∷ i 2 ∷ []) (l 3) (AStore 0) Stuck
+    ∷ on_locals (i 1 ∷ i 2 ∷ []) (i 3 ∷ []) (LStore 0) Stuck
+    ∷ on_locals (i 1 ∷ i 2 ∷ []) (at 3 ∷ []) (LStore 0) Stuck
+    ∷ on_locals (i 1 ∷ i 2 ∷ []) (l 3) (IStore 0) Stuck
+    ∷ on_locals (i 1 ∷ []) [] (LLoad 0) Stuck
     ∷ on (i 1 ∷ i 2 ∷ []) (Stack move.Pop) (gives (i 2 ∷ []))
     ∷ on (i 1 ∷ i 2 ∷ i 3 ∷ []) (Stack move.Pop2) (gives (i 3 ∷ []))
     ∷ on (i 1 ∷ []) (Stack move.Pop2) Stuck
@@ -191,9 +196,23 @@ computing =
     ∷ on (l 1 ++ l 9223372036854775807) (LArith Add) (gives (SecondHalf ∷ Holds (LongValue (negsuc 9223372036854775807)) ∷ []))
     ∷ on (l 2 ++ l 7 ++ i 9 ∷ []) (LArith Sub) (gives (l 5 ++ i 9 ∷ []))
     ∷ on (l 0 ++ l 7) (LArith Div) Ends
+    ∷ on (l 2 ++ l 7) (LArith Div) (gives (l 3))
+    ∷ on (l 3 ++ l 7) (LArith Mul) (gives (l 21))
+    ∷ on (l 4 ++ l 7) (LArith Rem) (gives (l 3))
+    ∷ on (l 0 ++ l 7) (LArith Rem) Ends
+    ∷ on (i 1 ∷ l 8) (LArith Shr) (gives (l 4))
+    ∷ on (i 65 ∷ l 8) (LArith Ushr) (gives (l 4))
+    ∷ on (l 6 ++ l 3) (LArith And) (gives (l 2))
+    ∷ on (l 6 ++ l 3) (LArith Or) (gives (l 7))
+    ∷ on (l 6 ++ l 3) (LArith Xor) (gives (l 5))
     ∷ on (i 65 ∷ l 3) (LArith Shl) (gives (l 6))
     ∷ on (l 1 ++ l 3) (LArith Shl) Stuck
     ∷ on (i 7 ∷ []) Neg (gives (less 6 ∷ []))
+    ∷ on (l 7) Neg Stuck
+    ∷ on (at 0 ∷ []) Neg Stuck
+    ∷ on (i 7 ∷ []) LNeg Stuck
+    ∷ on (none ∷ []) LNeg Stuck
+    ∷ on (at 0 ∷ []) LNeg Stuck
     ∷ on (l 7) LNeg (gives (SecondHalf ∷ Holds (LongValue (negsuc 6)) ∷ []))
     ∷ on (i 255 ∷ []) (Narrow narrow.Byte) (gives (less 0 ∷ []))
     ∷ on (less 0 ∷ []) (Narrow narrow.Char) (gives (i 65535 ∷ []))
@@ -239,6 +258,10 @@ branching =
     ∷ on (i 4 ∷ i 5 ∷ []) IReturn (Returns (i 4 ∷ []))
     ∷ on (l 4) LReturn (Returns (l 4))
     ∷ on (none ∷ []) AReturn (Returns (none ∷ []))
+    ∷ on (i 4 ∷ []) AReturn Stuck
+    ∷ on (l 4) AReturn Stuck
+    ∷ on (l 4) IReturn Stuck
+    ∷ on (i 4 ∷ []) LReturn Stuck
     ∷ on (i 4 ∷ []) Return (Returns [])
     ∷ on (at 1 ∷ []) Throw Ends
     ∷ []
@@ -261,6 +284,8 @@ accessing =
     ∷ on (l 2 ++ at 1 ∷ []) (PutField (ref (codes "B") (codes "y") (codes "J")))
     (SetsObject 1 (Instance (class_id 12) ((field_id 3, int 7) ∷ (field_id 4, Address 0) ∷ (field_id 5, long 2) ∷ [])) [])
     ∷ on (i 2 ∷ none ∷ []) (PutField (ref (codes "A") (codes "x") (codes "I"))) Ends
+    ∷ on (i 2 ∷ at 2 ∷ []) (PutField (ref (codes "A") (codes "x") (codes "I"))) Ends
+    ∷ on (l 2 ++ at 0 ∷ []) (PutField (ref (codes "B") (codes "y") (codes "J"))) Ends
     ∷ []
 
 abbrev pub making : List Acting
@@ -289,6 +314,9 @@ making =
     ∷ on (at 1 ∷ i 8 ∷ []) (InstanceOf (codes "D")) (gives (i 1 ∷ i 8 ∷ []))
     ∷ on (at 0 ∷ []) (InstanceOf (codes "B")) (gives (i 0 ∷ []))
     ∷ on (none ∷ []) (InstanceOf (codes "B")) (gives (i 0 ∷ []))
+    ∷ on (at 2 ∷ []) (InstanceOf (codes "java/lang/Object")) (gives (i 1 ∷ []))
+    ∷ on (at 2 ∷ []) (InstanceOf (codes "[J")) (gives (i 0 ∷ []))
+    ∷ on (i 2 ∷ []) (InstanceOf (codes "B")) Stuck
     ∷ on (at 0 ∷ i 8 ∷ []) MonitorEnter (gives (i 8 ∷ []))
     ∷ on (none ∷ []) MonitorEnter Ends
     ∷ on (at 0 ∷ i 8 ∷ []) MonitorExit (gives (i 8 ∷ []))
