@@ -1,3 +1,4 @@
+pub mod Applied
 pub mod Calls
 pub mod Covered
 pub mod Effects
@@ -19,3 +20,10 @@ pub mod Step
 pub mod Summaries
 pub mod Unchanged
 pub mod WellFormed
+pub mod Worked
+pub mod WorkedCharted
+pub mod WorkedInitialising
+pub mod WorkedNaming
+pub mod WorkedReceivers
+pub mod WorkedStoring
+pub mod WorkedVector

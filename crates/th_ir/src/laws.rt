@@ -18,6 +18,7 @@ ghost use Rattle.th_ir.specs.Unchanged.{IsPassed, IsUnchanged, IsWithinCall, las
 ghost use Rattle.th_ir.specs.WellFormed.{IsWellFormed};
 
 pub mod listings;
+pub mod worked;
 
 /// Every reachable state keeps the invariant.
 pub fn good()
