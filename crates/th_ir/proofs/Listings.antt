@@ -1,10 +1,16 @@
 -- Lists that ascend by a key and have the same members are one list; so facts, summaries, graph, alarms
 -- and producers are listed in one way.
 use Rattle.std.proofs.Common.{◌≡◌, ◌⊎◌, inl, inr, ℕ, zero, suc, ◌==◌, Bool, true, false, List, [], ◌∷◌, length, map, Option, None, Some, slice_get, refl, sym, ap, subst, arith, ◌∙◌}
-use Rattle.std.specs.Prelude.{nat_lt, ◌<◌, ◌||◌, ◌&&◌, ◌↔◌}
+use Rattle.std.specs.Prelude.{◌||◌, ◌&&◌, ◌↔◌}
 use Rattle.std.specs.List.{AllByRecursion, list_any}
+use Rattle.std.specs.List.Sorted.{IsStrictlySortedBy}
+use Rattle.std.specs.declared.cmp.Ordering.TheVariants.{Less, Equal, Greater}
+use Rattle.std.specs.Ordering.{ordering_reverse, nat_cmp}
+use Rattle.std.specs.Cmp.{IsTotalOrder}
+use Rattle.std.specs.Cmp.Lexicographic.{slice_cmp}
 use Rattle.std.specs.Option.{option_map_or}
-use Rattle.std.proofs.lemmas.Bool.{eqb-true, eq-eqb, ltb-true, or_cases, or_right}
+use Rattle.std.proofs.lemmas.Bool.{eqb-true, eq-eqb, or_cases, or_right}
+use Rattle.std.proofs.lemmas.Cmp.{nat_list_cmp_total}
 use Rattle.th_base.specs.declared.class.ClassInfo.{ClassInfo}
 use Rattle.th_base.specs.declared.number.FieldId.{FieldId}
 use Rattle.th_base.specs.declared.number.MethodId.{MethodId}
@@ -19,7 +25,7 @@ use Rattle.th_ir.specs.declared.graph.Edge.{Edge}
 use Rattle.th_ir.specs.declared.graph.Producer.{Producer}
 use Rattle.th_ir.specs.declared.program.RegProgram.{RegProgram}
 use Rattle.th_ir.specs.Program.{Among}
-use Rattle.th_ir.specs.FactSets.{FactSets, SaysWithin, set_at, sets_of, is_below, IsBelow, AscendBy, IsListedSet, cell_key, elem_key, call_key, AreListed}
+use Rattle.th_ir.specs.FactSets.{FactSets, SaysWithin, set_at, sets_of, AscendBy, IsListedSet, cell_key, elem_key, call_key, AreListed}
 use Rattle.th_ir.specs.Rules.{IsLeast, LeastFacts}
 use Rattle.th_ir.specs.Summaries.{SumsWithin, sums_of, IsListedMods, LeastMods}
 use Rattle.th_ir.specs.Graph.{edge_key, IsGraph, alarm_key, AreAlarms, producer_key, AreProducers}
@@ -41,21 +47,12 @@ among_any p (y ∷ xs) (suc k) x at e = or_right (p y) (list_any p xs) (among_an
 
 -- ---- one list
 
--- the first number is less, or the first two are the same and the rests are in order
-below_cases : (x y : ℕ) (xs ys : List ℕ) → IsBelow (x ∷ xs) (y ∷ ys) → (x < y) ⊎ ((x ≡ y) × IsBelow xs ys)
-below_cases x y xs ys e = elim (or_cases (nat_lt x y) (x == y && is_below xs ys) e) [
-  | inl less ↦ inl (ltb-true x y less)
-  | inr rest ↦ (let parts = and_parts (x == y) (is_below xs ys) rest in inr (eqb-true x y parts.0, parts.1))
-]
+-- the first key comes before the second
+abbrev pub IsBelow : List ℕ → List ℕ → Type 0
+IsBelow a b = slice_cmp nat_cmp a b ≡ Less
 
 not_both_below : (a b : List ℕ) → IsBelow a b → IsBelow b a → ⊥
-not_both_below [] [] one two = cc
-not_both_below [] (y ∷ ys) one two = cc
-not_both_below (x ∷ xs) [] one two = cc
-not_both_below (x ∷ xs) (y ∷ ys) one two = elim (below_cases x y xs ys one) [
-  | inl less ↦ elim (below_cases y x ys xs two) [ inl more ↦ omega (arith, less, more) | inr same ↦ omega (arith, less, same.0) ]
-  | inr same ↦ elim (below_cases y x ys xs two) [ inl more ↦ omega (arith, same.0, more) | inr again ↦ not_both_below xs ys same.1 again.1 ]
-]
+not_both_below a b one two = let both : Less ≡ ordering_reverse Less = sym one ∙ nat_list_cmp_total.antisymm a b ∙ ap ordering_reverse two in cc
 
 not_below_itself : (a : List ℕ) → IsBelow a a → ⊥
 not_below_itself a e = not_both_below a a e e
@@ -67,6 +64,7 @@ below_at key k (y ∷ xs) (suc n) x all e = below_at key k xs n x all.1 e
 
 -- of several with one key there is one
 key_once : {X : Type 0} (key : X → List ℕ) (xs : List X) (i k : ℕ) (x y : X) → AscendBy key xs → slice_get xs i ≡ Some x → slice_get xs k ≡ Some y → key x ≡ key y → x ≡ y
+unfolding IsStrictlySortedBy
 key_once key [] i k x y ascend e d same = absurd cc
 key_once key (z ∷ xs) zero zero x y ascend e d same = sym (some_is z x e) ∙ some_is z y d
 key_once key (z ∷ xs) zero (suc k) x y ascend e d same =
@@ -100,6 +98,7 @@ first_same key x y xs ys below_x below_y one two = elim one [
 ]
 
 pub one_list : {X : Type 0} (key : X → List ℕ) (xs ys : List X) → AscendBy key xs → AscendBy key ys → ((x : X) → Among xs x → Among ys x) → ((x : X) → Among ys x → Among xs x) → xs ≡ ys
+unfolding IsStrictlySortedBy
 one_list key [] [] a b there back = refl
 one_list key [] (y ∷ ys) a b there back = let e = (back y (0, refl)).1 in absurd cc
 one_list key (x ∷ xs) [] a b there back = let e = (there x (0, refl)).1 in absurd cc

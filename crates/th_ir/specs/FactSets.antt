@@ -1,7 +1,10 @@
 -- What points-to facts say, as sets, and how the lists of `Facts` say it.
-use Rattle.std.specs.Prelude.{ℕ, ◌≡◌, ◌==◌, ◌&&◌, ◌||◌, nat_lt, ⊤, Bool, true, false, List, [], ◌∷◌, length, map, slice_get}
+use Rattle.std.specs.Prelude.{ℕ, ◌≡◌, ◌==◌, ◌&&◌, Bool, true, false, List, [], ◌∷◌, length, map, slice_get}
 use Rattle.std.specs.List.{list_any, AllByRecursion}
+use Rattle.std.specs.List.Sorted.{IsStrictlySortedBy}
 use Rattle.std.specs.Option.{option_map_or}
+use Rattle.std.specs.Ordering.{nat_cmp}
+use Rattle.std.specs.Cmp.Lexicographic.{slice_cmp}
 use Rattle.th_base.specs.declared.class.ClassInfo.{ClassInfo}
 use Rattle.th_base.specs.declared.number.FieldId.{FieldId}
 use Rattle.th_base.specs.declared.number.MethodId.{MethodId}
@@ -53,24 +56,9 @@ sets_of facts = record {
   reached = has facts.reached;
 }
 
--- the first list of numbers comes before the second: by the first number in which they differ
-abbrev pub is_below : List ℕ → List ℕ → Bool
-is_below [] [] = false
-is_below [] (y ∷ ys) = true
-is_below (x ∷ xs) [] = false
-is_below (x ∷ xs) (y ∷ ys) = nat_lt x y || (x == y && is_below xs ys)
-
-abbrev pub IsBelow : List ℕ → List ℕ → Type 0
-IsBelow a b = is_below a b ≡ true
-
--- each list of numbers comes before all that stand behind it
-abbrev pub Ascend : List (List ℕ) → Type 0
-Ascend [] = ⊤
-Ascend (k ∷ ks) = AllByRecursion (IsBelow k) ks × Ascend ks
-
--- the items ascend by their keys, each once
+-- lists of numbers ascend, each once: by the first number in which they differ
 abbrev pub AscendBy : {X : Type 0} → (X → List ℕ) → List X → Type 0
-AscendBy key xs = Ascend (map key xs)
+AscendBy key xs = IsStrictlySortedBy (slice_cmp nat_cmp) (map key xs)
 
 -- a set is listed where it isn't empty, ascending
 abbrev pub IsListedSet : List ℕ → Type 0
