@@ -5,11 +5,14 @@ pub mod Built
 pub mod DepthFirst
 pub mod Enough
 pub mod Looked
+pub mod MemberNumbers
+pub mod MemberPlaces
 pub mod Membership
 pub mod Merge
 pub mod Named
 pub mod Ordered
 pub mod Orders
+pub mod RowOf
 pub mod Rows
 pub mod Sieve
 pub mod Upward

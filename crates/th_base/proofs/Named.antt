@@ -71,7 +71,7 @@ cond_or : (b : Bool) (i : ℕ) (o r : Option ℕ) → option_or (cond b (Some i)
 cond_or true i o r = refl
 cond_or false i o r = refl
 
-position_from-push : {X : Type 0} (p : X → Bool) (j : ℕ) (xs : List X) (x : X)
+pub position_from-push : {X : Type 0} (p : X → Bool) (j : ℕ) (xs : List X) (x : X)
     → position_from p j (xs ++ x ∷ []) ≡ option_or (position_from p j xs) (cond (p x) (Some (j + length xs)) None)
 position_from-push p j [] x = let e : j + 0 ≡ j = omega arith in rw e refl
 position_from-push p j (y ∷ ys) x =

@@ -1,18 +1,18 @@
 -- The rows of a hierarchy: what they list before and after one of them is written.
-use Rattle.std.proofs.Common.{◌≡◌, ℕ, ◌+◌, ◌<◌, ◌≤◌, zero, suc, Bool, true, false, eqb, List, [], ◌∷◌, ◌++◌, Option, Some, length, take, drop, set, get_or, map, ◌⊎◌, refl, sym, ap, ◌∙◌, subst, inl, inr, arith}
+use Rattle.std.proofs.Common.{◌≡◌, ℕ, ◌+◌, ◌<◌, ◌≤◌, zero, suc, Bool, true, false, eqb, List, [], ◌∷◌, ◌++◌, Option, Some, None, length, take, drop, set, get_or, map, ◌⊎◌, refl, sym, ap, ◌∙◌, subst, inl, inr, arith}
 use Rattle.std.specs.List.{flat_map, slice_get}
 use Rattle.std.specs.Option.{option_map, option_map_or, option_to_list}
 use Rattle.std.proofs.lemmas.Bool.{cases_eq, cases_lt, both_ways, or_cases, eqb-true}
 use Rattle.std.proofs.lemmas.List.Concat.{flat_map-append}
 use Rattle.std.proofs.lemmas.Option.{slice_get-get_or}
-use Rattle.std.proofs.lemmas.List.{append-nil, append_assoc, take_more, take_all, length-map, get_or-map, drop_more, get_or-set_same, get_or-set_other, get_or_past}
+use Rattle.std.proofs.lemmas.List.{append-nil, append_assoc, length-append, take_more, take_all, length-map, get_or-map, drop_more, get_or-set_same, get_or-set_other, get_or_past}
 use Rattle.th_base.specs.declared.class.ClassInfo.{ClassInfo}
 use Rattle.th_base.specs.declared.ancestors.Ancestors.{Ancestors}
-use Rattle.th_base.specs.Ancestors.{FindAlike, Adds, supertypes_listed, superinterfaces_listed, superclass_in, with_superinterfaces, superinterfaces_by, ListsClasses, ListsAbove}
+use Rattle.th_base.specs.Ancestors.{FindAlike, Adds, supertypes_listed, superinterfaces_listed, line_listed, all_listed, superclass_in, ListsClasses, ListsAbove}
 use Rattle.th_base.specs.declared.ancestors.Listing.{Listing}
 use Rattle.th_base.specs.declared.number.ClassId.{ClassId}
 use Rattle.th_base.specs.Order.{supertypes_in}
-use Rattle.th_base.specs.Hierarchy.{supertypes_of, superinterfaces_of}
+use Rattle.th_base.specs.Hierarchy.{lineage_of, supertypes_of, superinterfaces_of}
 use Rattle.th_base.specs.IdSet.{has}
 use Rattle.th_base.proofs.Alike.{adds_both, slice_get-set_same, slice_get-set_other}
 use Rattle.th_base.proofs.Ascending.{has_at, has_first}
@@ -32,6 +32,9 @@ push_nothing f [] r e h zero = e
 push_nothing f [] r e h (suc c) = refl
 push_nothing f (q ∷ qs) r e h zero = h 0
 push_nothing f (q ∷ qs) r e h (suc c) = push_nothing f qs r e (λ k. h (suc k)) c
+
+pub pushed_length : {X : Type 0} (xs : List X) (x : X) (n : ℕ) → length xs ≡ n → length (xs ++ x ∷ []) ≡ n + 1
+pushed_length xs x n h = let e = length-append xs (x ∷ []) in omega arith
 
 pub lists_nothing : (rows : List Ancestors) (n : ℕ) → ((c : ℕ) → supertypes_listed rows c ≡ []) → ((c : ℕ) → superinterfaces_listed rows c ≡ []) → ListsClasses rows n
 lists_nothing rows n a b = record {
@@ -62,20 +65,40 @@ lists_classes_set rows n c r h old a b = record {
   ];
 }
 
-pub lists_above_set_same : (classes : List ClassInfo) (rows : List Ancestors) (c : ℕ) (r : Ancestors) → c < length rows
-    → FindAlike r.supertypes (supertypes_of classes c) → FindAlike r.superinterfaces (superinterfaces_of classes c) → ListsAbove classes (set rows c r) c
-lists_above_set_same classes rows c r h a b =
+-- the row of a class serves for the rules
+pub record RowServes (classes : List ClassInfo) (c : ℕ) (r : Ancestors) : Type 0 where
+  pub supertypes : FindAlike r.supertypes (supertypes_of classes c)
+  pub superinterfaces : FindAlike r.superinterfaces (superinterfaces_of classes c)
+  pub line : r.line ≡ lineage_of classes c
+  pub all : (x : ℕ) → has r.all x ≡ has (supertypes_of classes c) x
+
+pub lists_above_set_same : (classes : List ClassInfo) (rows : List Ancestors) (c : ℕ) (r : Ancestors) → c < length rows → RowServes classes c r → ListsAbove classes (set rows c r) c
+lists_above_set_same classes rows c r h serves =
     let e = slice_get-set_same rows c r h in
     let f : supertypes_listed (set rows c r) c ≡ r.supertypes = ap (λ o. option_map_or (λ q. q.supertypes) o []) e in
     let g : superinterfaces_listed (set rows c r) c ≡ r.superinterfaces = ap (λ o. option_map_or (λ q. q.superinterfaces) o []) e in
-    record { supertypes = subst (λ l. FindAlike l (supertypes_of classes c)) (sym f) a; superinterfaces = subst (λ l. FindAlike l (superinterfaces_of classes c)) (sym g) b }
+    let l : line_listed (set rows c r) c ≡ r.line = ap (λ o. option_map_or (λ q. q.line) o []) e in
+    let m : all_listed (set rows c r) c ≡ r.all = ap (λ o. option_map_or (λ q. q.all) o []) e in
+    record {
+      supertypes = subst (λ l. FindAlike l (supertypes_of classes c)) (sym f) serves.supertypes;
+      superinterfaces = subst (λ l. FindAlike l (superinterfaces_of classes c)) (sym g) serves.superinterfaces;
+      line = l ∙ serves.line;
+      all = λ x. ap (λ s. has s x) m ∙ serves.all x;
+    }
 
 pub lists_above_set_other : (classes : List ClassInfo) (rows : List Ancestors) (c d : ℕ) (r : Ancestors) → (d ≡ c → ⊥) → ListsAbove classes rows d → ListsAbove classes (set rows c r) d
 lists_above_set_other classes rows c d r ne old =
     let e = slice_get-set_other rows c d r ne in
     let f : supertypes_listed (set rows c r) d ≡ supertypes_listed rows d = ap (λ o. option_map_or (λ q. q.supertypes) o []) e in
     let g : superinterfaces_listed (set rows c r) d ≡ superinterfaces_listed rows d = ap (λ o. option_map_or (λ q. q.superinterfaces) o []) e in
-    record { supertypes = subst (λ l. FindAlike l (supertypes_of classes d)) (sym f) old.supertypes; superinterfaces = subst (λ l. FindAlike l (superinterfaces_of classes d)) (sym g) old.superinterfaces }
+    let l : line_listed (set rows c r) d ≡ line_listed rows d = ap (λ o. option_map_or (λ q. q.line) o []) e in
+    let m : all_listed (set rows c r) d ≡ all_listed rows d = ap (λ o. option_map_or (λ q. q.all) o []) e in
+    record {
+      supertypes = subst (λ l. FindAlike l (supertypes_of classes d)) (sym f) old.supertypes;
+      superinterfaces = subst (λ l. FindAlike l (superinterfaces_of classes d)) (sym g) old.superinterfaces;
+      line = l ∙ old.line;
+      all = λ x. ap (λ s. has s x) m ∙ old.all x;
+    }
 
 -- ---- marks that are taken back
 
@@ -106,7 +129,13 @@ row_supertypes rows s r h = ap (λ o. option_map_or (λ q. q.supertypes) o []) (
 pub row_superinterfaces : (rows : List Ancestors) (s : ℕ) (r : Ancestors) → s < length rows → superinterfaces_listed rows s ≡ (get_or rows s r).superinterfaces
 row_superinterfaces rows s r h = ap (λ o. option_map_or (λ q. q.superinterfaces) o []) (slice_get-get_or rows s r h)
 
-flat_more : (f : ℕ → List ℕ) (xs : List ℕ) (i : ℕ) → i < length xs → flat_map f (take (i + 1) xs) ≡ flat_map f (take i xs) ++ f (get_or xs i 0)
+pub row_line : (rows : List Ancestors) (s : ℕ) (r : Ancestors) → s < length rows → line_listed rows s ≡ (get_or rows s r).line
+row_line rows s r h = ap (λ o. option_map_or (λ q. q.line) o []) (slice_get-get_or rows s r h)
+
+pub row_all : (rows : List Ancestors) (s : ℕ) (r : Ancestors) → s < length rows → all_listed rows s ≡ (get_or rows s r).all
+row_all rows s r h = ap (λ o. option_map_or (λ q. q.all) o []) (slice_get-get_or rows s r h)
+
+pub flat_more : (f : ℕ → List ℕ) (xs : List ℕ) (i : ℕ) → i < length xs → flat_map f (take (i + 1) xs) ≡ flat_map f (take i xs) ++ f (get_or xs i 0)
 flat_more f xs i h =
     ap (flat_map f) (take_more xs i 0 h) ∙ flat_map-append f (take i xs) (get_or xs i 0 ∷ []) ∙ ap (λ l. flat_map f (take i xs) ++ l) (append-nil (f (get_or xs i 0)))
 
@@ -141,18 +170,29 @@ interface_at k items i e h =
       named = interface_named k (get_or items i record { 0 = 0 }).0 (has_at (map (λ j. j.0) k.interfaces) (get_or items i record { 0 = 0 }).0 i mapped value);
     }
 
--- all interfaces have been added, and then what is above the superclass is
-pub adds_superclass : (a b c : Listing) (rows : List Ancestors) (k : ClassInfo) (i : ℕ) (id : ClassId) → k.super_id ≡ Some id → length k.interfaces ≤ i
-    → Adds a b (flat_map (with_superinterfaces rows) (take i (map (λ j. j.0) k.interfaces))) → Adds b c (superinterfaces_listed rows id.0)
-    → Adds a c (superinterfaces_by rows k)
-adds_superclass a b c rows k i id e h f g =
-    let whole : take i (map (λ j. j.0) k.interfaces) ≡ map (λ j. j.0) k.interfaces =
-    take_all i (map (λ j. j.0) k.interfaces) (omega (arith, length-map k.interfaces (λ j. j.0))) in
-    let last : superinterfaces_listed rows id.0 ≡ flat_map (superinterfaces_listed rows) (superclass_in k) =
-    sym (append-nil (superinterfaces_listed rows id.0)) ∙ ap (λ (o : Option ClassId). flat_map (superinterfaces_listed rows) (option_to_list (option_map (λ s. s.0) o))) (sym e) in
-    adds_both a b c (flat_map (with_superinterfaces rows) (map (λ j. j.0) k.interfaces)) (flat_map (superinterfaces_listed rows) (superclass_in k))
-    (subst (λ l. Adds a b (flat_map (with_superinterfaces rows) l)) whole f) (subst (λ l. Adds b c l) last g)
+-- what is listed for the superclass, as a list of at most one
+pub listed_once : (f : ℕ → List ℕ) (k : ClassInfo) (id : ClassId) → k.super_id ≡ Some id → f id.0 ≡ flat_map f (superclass_in k)
+listed_once f k id e = sym (append-nil (f id.0)) ∙ ap (λ (o : Option ClassId). flat_map f (option_to_list (option_map (λ s. s.0) o))) (sym e)
+
+pub listed_never : (f : ℕ → List ℕ) (k : ClassInfo) → k.super_id ≡ None → [] ≡ flat_map f (superclass_in k)
+listed_never f k e = ap (λ (o : Option ClassId). flat_map f (option_to_list (option_map (λ s. s.0) o))) (sym e)
+
+-- what the interfaces list has been added, and then what the superclass lists
+pub adds_superclass : (a b c : Listing) (front : List ℕ) (f : ℕ → List ℕ) (k : ClassInfo) (id : ClassId) → k.super_id ≡ Some id
+    → Adds a b front → Adds b c (f id.0) → Adds a c (front ++ flat_map f (superclass_in k))
+adds_superclass a b c front f k id e g h = adds_both a b c front (flat_map f (superclass_in k)) g (subst (λ l. Adds b c l) (listed_once f k id e) h)
+
+pub adds_no_superclass : (a b : Listing) (front : List ℕ) (f : ℕ → List ℕ) (k : ClassInfo) → k.super_id ≡ None
+    → Adds a b front → Adds a b (front ++ flat_map f (superclass_in k))
+adds_no_superclass a b front f k e g = subst (λ l. Adds a b l) (sym (append-nil front) ∙ ap (λ l. front ++ l) (listed_never f k e)) g
+
+-- all parts of a list have been added
+pub adds_parts : (a b : Listing) (front : List ℕ) (f : ℕ → List ℕ) (xs : List ℕ) (i : ℕ) → length xs ≤ i → Adds a b (front ++ flat_map f (take i xs)) → Adds a b (front ++ flat_map f xs)
+adds_parts a b front f xs i h g = subst (λ l. Adds a b (front ++ flat_map f l)) (take_all i xs h) g
+
+pub has_superclass : (k : ClassInfo) (id : ClassId) → k.super_id ≡ Some id → has (superclass_in k) id.0 ≡ true
+has_superclass k id e = ap (λ (o : Option ClassId). has (option_to_list (option_map (λ s. s.0) o)) id.0) e ∙ has_first id.0 []
 
 pub superclass_at : (k : ClassInfo) (id : ClassId) → k.super_id ≡ Some id → has (supertypes_in k) id.0 ≡ true
 superclass_at k id e =
-    superclass_named k id.0 (ap (λ (o : Option ClassId). has (option_to_list (option_map (λ s. s.0) o)) id.0) e ∙ has_first id.0 [])
+    superclass_named k id.0 (has_superclass k id e)

@@ -1,19 +1,16 @@
 -- Look-ups along a list of classes, or a line of superclasses, find what the rules find.
-use Rattle.std.proofs.Common.{◌≡◌, ℕ, ◌+◌, ◌<◌, ◌≤◌, zero, suc, false, cond, not, ◌&&◌, ◌||◌, Bor, List, [], ◌∷◌, ◌++◌, Option, Some, None, is_some, length, take, get_or, refl, sym, ap, ◌∙◌, arith}
+use Rattle.std.proofs.Common.{◌≡◌, ℕ, ◌+◌, ◌<◌, ◌≤◌, zero, suc, false, cond, not, ◌&&◌, Bor, List, [], ◌∷◌, ◌++◌, Option, Some, None, is_some, length, take, get_or, refl, sym, ap, ◌∙◌, arith}
 use Rattle.std.specs.List.{find, slice_get}
 use Rattle.std.specs.Option.{option_or, option_map, option_and_then, option_copied}
 use Rattle.std.specs.Str.{bytes_eq}
-use Rattle.std.proofs.lemmas.Bool.{ne_eqb}
 use Rattle.std.proofs.lemmas.List.{take_more, take_all}
 use Rattle.std.proofs.lemmas.Option.{slice_get-get_or}
 use Rattle.th_base.specs.declared.class.ClassInfo.{ClassInfo}
 use Rattle.th_base.specs.Ancestors.{FindAlike}
-use Rattle.th_base.specs.Hierarchy.{superclass_of, direct_supertypes, IsAcyclic, lineage_of, first_some, first_field, field_number, first_method, method_number, overriding_along, declared_field, declared_method, overriding_method}
+use Rattle.th_base.specs.Hierarchy.{superclass_of, direct_supertypes, IsAcyclic, first_some, first_field, first_method, overriding_along, declared_field, declared_method, overriding_method}
 use Rattle.th_base.specs.declared.class.FieldInfo.{FieldInfo}
 use Rattle.th_base.specs.declared.class.MethodInfo.{MethodInfo}
-use Rattle.th_base.specs.IdSet.{has}
-use Rattle.th_base.specs.Lookup.{lineage_rest}
-use Rattle.th_base.proofs.Enough.{lineage_of_is, superclass_is_direct}
+use Rattle.th_base.proofs.Enough.{superclass_is_direct}
 use Rattle.th_base.proofs.Membership.{Contains-from_has}
 
 -- ---- the first answer along a list
@@ -80,24 +77,6 @@ superclass_at classes c k e = ap (λ o. option_and_then (λ q. option_map (λ s.
 pub superclass_inside : (classes : List ClassInfo) (c s : ℕ) → IsAcyclic classes → superclass_of classes c ≡ Some s → s < length classes
 superclass_inside classes c s a e = a.in_range c s (Contains-from_has (direct_supertypes classes c) s (superclass_is_direct classes c s e))
 
--- ---- one step up a line of superclasses
-
-pub record StepsUp (classes : List ClassInfo) (c : ℕ) (next : Option ℕ) : Type 0 where
-  pub line : lineage_of classes c ≡ c ∷ lineage_rest classes next
-  pub in_range : (s : ℕ) → next ≡ Some s → s < length classes
-  pub nearer : length (lineage_rest classes next) < length (lineage_of classes c)
-
-pub steps_up : (classes : List ClassInfo) (c : ℕ) (k : ClassInfo) (next : Option ℕ) → IsAcyclic classes → c < length classes → k ≡ get_or classes c k
-    → next ≡ option_map (λ s. s.0) k.super_id → StepsUp classes c next
-steps_up classes c k next a h e n =
-    let up : superclass_of classes c ≡ next = superclass_at classes c k (class_at classes c k h e) ∙ sym n in
-    let line : lineage_of classes c ≡ c ∷ lineage_rest classes next = lineage_of_is classes c a h ∙ ap (λ o. c ∷ lineage_rest classes o) up in
-    record {
-      line = line;
-      in_range = λ s g. superclass_inside classes c s a (up ∙ g);
-      nearer = omega (arith, ap length line);
-    }
-
 -- ---- what one class declares, as the look-ups read it
 
 option_map_none : {X Y : Type 0} (f : X → Y) (o : Option X) → o ≡ None → option_map f o ≡ None
@@ -134,11 +113,11 @@ field_step classes name descriptor k = option_map (λ m. (k, m)) (declared_field
 
 pub field_found : (classes : List ClassInfo) (name descriptor order : List ℕ) (i : ℕ) (k : ClassInfo) (found : FieldInfo) → i < length order
     → first_field classes name descriptor (take i order) ≡ None → get_or order i 0 < length classes → k ≡ get_or classes (get_or order i 0) k
-    → Some found ≡ find (λ f. bytes_eq f.name name && bytes_eq f.descriptor descriptor) k.fields → Some found.id ≡ field_number (first_field classes name descriptor order)
+    → Some found ≡ find (λ f. bytes_eq f.name name && bytes_eq f.descriptor descriptor) k.fields → Some (get_or order i 0, found) ≡ first_field classes name descriptor order
 field_found classes name descriptor order i k found h before inside e g =
     let c = get_or order i 0 in
     let here : field_step classes name descriptor c ≡ Some (c, found) = ap (option_map (λ m. (c, m))) (field_here classes name descriptor c k (Some found) inside e g) in
-    sym (ap field_number (along_found (field_step classes name descriptor) order i (c, found) h before here))
+    sym (along_found (field_step classes name descriptor) order i (c, found) h before here)
 
 pub field_missed : (classes : List ClassInfo) (name descriptor order : List ℕ) (i : ℕ) (k : ClassInfo) → i < length order
     → first_field classes name descriptor (take i order) ≡ None → get_or order i 0 < length classes → k ≡ get_or classes (get_or order i 0) k
@@ -153,11 +132,11 @@ method_step classes name descriptor k = option_map (λ m. (k, m)) (declared_meth
 
 pub method_found : (classes : List ClassInfo) (name descriptor order : List ℕ) (i : ℕ) (k : ClassInfo) (found : MethodInfo) → i < length order
     → first_method classes name descriptor (take i order) ≡ None → get_or order i 0 < length classes → k ≡ get_or classes (get_or order i 0) k
-    → Some found ≡ find (λ m. bytes_eq m.name name && bytes_eq m.descriptor descriptor) k.methods → Some found.id ≡ method_number (first_method classes name descriptor order)
+    → Some found ≡ find (λ m. bytes_eq m.name name && bytes_eq m.descriptor descriptor) k.methods → Some (get_or order i 0, found) ≡ first_method classes name descriptor order
 method_found classes name descriptor order i k found h before inside e g =
     let c = get_or order i 0 in
     let here : method_step classes name descriptor c ≡ Some (c, found) = ap (option_map (λ m. (c, m))) (method_here classes name descriptor c k (Some found) inside e g) in
-    sym (ap method_number (along_found (method_step classes name descriptor) order i (c, found) h before here))
+    sym (along_found (method_step classes name descriptor) order i (c, found) h before here)
 
 pub method_missed : (classes : List ClassInfo) (name descriptor order : List ℕ) (i : ℕ) (k : ClassInfo) → i < length order
     → first_method classes name descriptor (take i order) ≡ None → get_or order i 0 < length classes → k ≡ get_or classes (get_or order i 0) k
@@ -170,34 +149,20 @@ method_missed classes name descriptor order i k h before inside e g =
 abbrev overriding_step : List ClassInfo → List ℕ → List ℕ → ℕ → Option (ℕ × MethodInfo)
 overriding_step classes name descriptor k = option_map (λ m. (k, m)) (overriding_method classes name descriptor k)
 
--- ---- a look-up along a line of superclasses, one class further
+pub overriding_found : (classes : List ClassInfo) (name descriptor order : List ℕ) (i : ℕ) (k : ClassInfo) (found : MethodInfo) → i < length order
+    → overriding_along classes name descriptor (take i order) ≡ None → get_or order i 0 < length classes → k ≡ get_or classes (get_or order i 0) k
+    → Some found ≡ find (λ m. (bytes_eq m.name name && bytes_eq m.descriptor descriptor) && (not m.is_static && not m.is_private)) k.methods
+    → Some (get_or order i 0, found) ≡ overriding_along classes name descriptor order
+overriding_found classes name descriptor order i k found h before inside e g =
+    let c = get_or order i 0 in
+    let here : overriding_step classes name descriptor c ≡ Some (c, found) = ap (option_map (λ m. (c, m))) (overriding_here classes name descriptor c k (Some found) inside e g) in
+    sym (along_found (overriding_step classes name descriptor) order i (c, found) h before here)
 
--- the next class upwards, where there is one, and the line from it on
-pub line_from : (classes : List ClassInfo) (next : Option ℕ) (c : ℕ) → next ≡ Some c → lineage_rest classes next ≡ lineage_of classes c
-line_from classes next c e = ap (lineage_rest classes) e
-
-missed_upwards : {Y : Type 0} (f : ℕ → Option Y) (classes : List ClassInfo) (c : ℕ) (next : Option ℕ) → StepsUp classes c next → f c ≡ None
-    → first_some f (lineage_rest classes next) ≡ first_some f (lineage_of classes c)
-missed_upwards f classes c next up none =
-    sym (ap (first_some f) up.line ∙ none_first (f c) (first_some f (lineage_rest classes next)) none)
-
-found_upwards : {Y : Type 0} (f : ℕ → Option Y) (classes : List ClassInfo) (c : ℕ) (y : Y) (next : Option ℕ) → StepsUp classes c next → f c ≡ Some y
-    → first_some f (lineage_of classes c) ≡ Some y
-found_upwards f classes c y next up here = ap (first_some f) up.line ∙ ap (λ o. option_or o (first_some f (lineage_rest classes next))) here
-
-pub method_missed_upwards : (classes : List ClassInfo) (name descriptor : List ℕ) (c : ℕ) (k : ClassInfo) (next : Option ℕ) → c < length classes → k ≡ get_or classes c k
-    → StepsUp classes c next → None ≡ find (λ m. bytes_eq m.name name && bytes_eq m.descriptor descriptor) k.methods
-    → first_method classes name descriptor (lineage_rest classes next) ≡ first_method classes name descriptor (lineage_of classes c)
-method_missed_upwards classes name descriptor c k next h e up g =
-    missed_upwards (method_step classes name descriptor) classes c next up (ap (option_map (λ m. (c, m))) (method_here classes name descriptor c k None h e g))
-
-pub overriding_missed_upwards : (classes : List ClassInfo) (name descriptor : List ℕ) (c : ℕ) (k : ClassInfo) (next : Option ℕ) → c < length classes → k ≡ get_or classes c k
-    → StepsUp classes c next → None ≡ find (λ m. (bytes_eq m.name name && bytes_eq m.descriptor descriptor) && (not m.is_static && not m.is_private)) k.methods
-    → overriding_along classes name descriptor (lineage_rest classes next) ≡ overriding_along classes name descriptor (lineage_of classes c)
-overriding_missed_upwards classes name descriptor c k next h e up g =
-    missed_upwards (overriding_step classes name descriptor) classes c next up (ap (option_map (λ m. (c, m))) (overriding_here classes name descriptor c k None h e g))
-
-pub reaches_upwards : (classes : List ClassInfo) (c goal : ℕ) (next : Option ℕ) → StepsUp classes c next → (c ≡ goal → ⊥)
-    → has (lineage_rest classes next) goal ≡ has (lineage_of classes c) goal
-reaches_upwards classes c goal next up other =
-    sym (ap (λ l. has l goal) up.line ∙ ap (λ b. b || has (lineage_rest classes next) goal) (ne_eqb c goal other))
+pub overriding_missed : (classes : List ClassInfo) (name descriptor order : List ℕ) (i : ℕ) (k : ClassInfo) → i < length order
+    → overriding_along classes name descriptor (take i order) ≡ None → get_or order i 0 < length classes → k ≡ get_or classes (get_or order i 0) k
+    → None ≡ find (λ m. (bytes_eq m.name name && bytes_eq m.descriptor descriptor) && (not m.is_static && not m.is_private)) k.methods
+    → overriding_along classes name descriptor (take (i + 1) order) ≡ None
+overriding_missed classes name descriptor order i k h before inside e g =
+    let c = get_or order i 0 in
+    let here : overriding_step classes name descriptor c ≡ None = ap (option_map (λ m. (c, m))) (overriding_here classes name descriptor c k None inside e g) in
+    along_more (overriding_step classes name descriptor) order i h before here

@@ -3,7 +3,7 @@
 --
 -- Each recursion goes up by direct supertypes and takes at most as many steps as there are
 -- classes. Where no class stands above itself that is enough: `laws` has the equations without it.
-use Rattle.std.specs.Prelude.{ℕ, ◌≡◌, ◌<◌, true, false, ◌==◌, ◌&&◌, zero, suc, Bool, not, List, [], ◌∷◌, ◌++◌, length, map, find, Option, None, Some, slice_get, Contains, codes, if◌then◌else◌}
+use Rattle.std.specs.Prelude.{ℕ, ◌≡◌, ◌<◌, ◌+◌, true, false, ◌==◌, ◌&&◌, zero, suc, Bool, not, List, [], ◌∷◌, ◌++◌, length, map, find, Option, None, Some, slice_get, Contains, codes, if◌then◌else◌}
 use Rattle.std.specs.List.{flat_map, list_any}
 use Rattle.std.specs.Option.{option_or, option_map, option_and_then, option_map_or, option_to_list}
 use Rattle.std.specs.Str.{bytes_eq}
@@ -162,3 +162,17 @@ pub record IsSelected (classes : List ClassInfo) (c : ℕ) (name descriptor : Li
   pub open_to_subclasses : method.is_private ≡ false
   pub concrete : method.is_abstract ≡ false
   pub number : method.id ≡ id
+
+-- the first member of this number, class by class from class c on, and the class that declares it
+abbrev pub numbered_from : {X : Type 0} → (ClassInfo → List X) → (X → ℕ) → ℕ → List ClassInfo → ℕ → Option (ℕ × X)
+numbered_from members number c [] n = None
+numbered_from members number c (k ∷ ks) n =
+    option_or (option_map (λ x. (c, x)) (find (λ x. number x == n) (members k))) (numbered_from members number (c + 1) ks n)
+
+-- the first field of this number, and the class that declares it
+abbrev pub numbered_field : List ClassInfo → ℕ → Option (ℕ × FieldInfo)
+numbered_field classes n = numbered_from (λ k. k.fields) (λ f. f.id.0) 0 classes n
+
+-- the first method of this number, and the class that declares it
+abbrev pub numbered_method : List ClassInfo → ℕ → Option (ℕ × MethodInfo)
+numbered_method classes n = numbered_from (λ k. k.methods) (λ m. m.id.0) 0 classes n

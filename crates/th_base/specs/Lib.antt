@@ -5,6 +5,8 @@ pub mod Hierarchy
 pub mod IdSet
 pub mod Launchable
 pub mod Lookup
+pub mod MemberIndex
+pub mod Numbered
 pub mod Order
 pub mod Subtype
 pub mod ValueKinds

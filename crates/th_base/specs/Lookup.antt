@@ -1,16 +1,20 @@
--- What a hierarchy keeps beside its classes, and the shapes of descriptors that its look-ups read.
-use Rattle.std.specs.Prelude.{ℕ, ◌≡◌, ◌<◌, ◌^◌, List, [], ◌∷◌, length, Option, Vec}
-use Rattle.std.specs.Option.{option_map_or}
+-- Private to the hierarchy: what it keeps beside its classes, and the shapes of descriptors that its
+-- look-ups read.
+use Rattle.std.specs.Prelude.{ℕ, ◌≡◌, ◌<◌, ◌^◌, List, ◌∷◌, length, Vec}
 use Rattle.std.specs.Ordering.{nat_cmp}
 use Rattle.std.specs.Cmp.Lexicographic.{slice_cmp}
 use Rattle.std.specs.BTreeMap.{BTreeMap, get_by}
 use Rattle.std.specs.Global.{Global}
 use Rattle.th_base.specs.declared.class.ClassInfo.{ClassInfo}
 use Rattle.th_base.specs.declared.ancestors.Ancestors.{Ancestors}
+use Rattle.th_base.specs.declared.members.Members.{Members}
+use Rattle.th_base.specs.declared.numbered.Place.{Place}
 use Rattle.th_base.specs.declared.shape.Shape.{Shape}
 use Rattle.th_base.specs.declared.shape.Shape.TheVariants.{Array, Class, Primitive}
 use Rattle.th_base.specs.Ancestors.{AreAncestors}
-use Rattle.th_base.specs.Hierarchy.{IsAcyclic, lineage_of}
+use Rattle.th_base.specs.Hierarchy.{IsAcyclic}
+use Rattle.th_base.specs.MemberIndex.{AreIndexed}
+use Rattle.th_base.specs.Numbered.{FindsPlaces, field_numbers, method_numbers}
 use Rattle.th_base.specs.Subtype.{ClassType, PrimitiveType, described_type, named_type, class_named}
 
 -- the table finds the first class of each name, and no other
@@ -18,15 +22,14 @@ abbrev pub FindsFirst : List ClassInfo → BTreeMap (Vec ℕ Global) ℕ → Typ
 FindsFirst classes names = (name : List ℕ) → get_by (λ k. slice_cmp nat_cmp name k.items) names ≡ class_named classes name
 
 -- what holds of a hierarchy's fields
-pub record IsHierarchy (classes : List ClassInfo) (rows : List Ancestors) (names : BTreeMap (Vec ℕ Global) ℕ) : Type 0 where
+pub record IsHierarchy (classes : List ClassInfo) (rows : List Ancestors) (members : List Members) (names : BTreeMap (Vec ℕ Global) ℕ) (fields methods : BTreeMap ℕ Place) : Type 0 where
   pub acyclic : IsAcyclic classes
   pub few : length classes < 2 ^ 32
   pub above : AreAncestors classes rows
+  pub indexed : AreIndexed classes members
   pub names_are : FindsFirst classes names
-
--- the superclasses from a class on, where there is one
-abbrev pub lineage_rest : List ClassInfo → Option ℕ → List ℕ
-lineage_rest classes next = option_map_or (lineage_of classes) next []
+  pub fields_are : FindsPlaces (field_numbers classes) fields
+  pub methods_are : FindsPlaces (method_numbers classes) methods
 
 -- the shape of a field descriptor
 abbrev pub Describes : List ℕ → Shape → Type 0

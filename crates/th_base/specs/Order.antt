@@ -1,4 +1,5 @@
--- An order of classes in which each stands after its direct supertypes, and the walk that finds one.
+-- Private to the hierarchy: an order of classes in which each stands after its direct supertypes, and the
+-- walk that finds one.
 use Rattle.std.specs.Prelude.{ℕ, ◌≡◌, ◌<◌, ◌≤◌, ◌+◌, ◌-◌, true, List, [], ◌∷◌, ◌++◌, map, length, take, slice_index, slice_set, sum}
 use Rattle.std.specs.List.{slice_index_or, sum_by}
 use Rattle.std.specs.Option.{option_map, option_to_list}

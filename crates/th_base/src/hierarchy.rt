@@ -1,17 +1,17 @@
 // The classes of a program, with what its look-ups need.
-ghost use Rattle.std.specs.Prelude.{◌≡◌, ◌<◌, ◌^◌, ◌==◌, length, IfOk};
-ghost use Rattle.std.specs.List.{list_any};
-ghost use Rattle.th_base.specs.Hierarchy.{IsAcyclic, is_subclass, supertypes_of, field_of, method_of, selected_method};
+ghost use Rattle.std.specs.Prelude.{◌≡◌, ◌<◌, ◌^◌, ◌==◌, ℕ, length, true, IfOk};
+ghost use Rattle.std.specs.Option.{option_copied, option_map};
+ghost use Rattle.th_base.specs.Hierarchy.{IsAcyclic, is_subclass, supertypes_of, resolved_field, field_of, resolved_method, method_of, declared_method, first_method, selected_method, numbered_field, numbered_method};
+ghost use Rattle.th_base.specs.IdSet.{has};
 ghost use Rattle.th_base.specs.Subtype.{class_named, is_class_subtype, described_type, is_type_subtype, is_subtype};
 
 use crate::ancestors::{Ancestors, ancestors_of};
-use crate::members::{
-    field_along, method_along, method_in, method_upwards, reaches, select_upwards,
-};
+use crate::members::{Members, field_along, members_of, method_along, method_in, overriding_along};
 use crate::names::names_of;
+use crate::numbered::{Place, field_numbers, method_numbers, places_of};
 use crate::order::order_of;
 use crate::shape::{Shape, described, is_above_arrays, named};
-use crate::{ClassId, ClassInfo, FieldId, MethodId, Text};
+use crate::{CONSTRUCTOR, ClassId, ClassInfo, FieldId, FieldInfo, MethodId, MethodInfo, Seq, Text};
 use std::alloc::{AllocError, Global};
 use std::collections::BTreeMap;
 use std::marker::Model;
@@ -19,15 +19,17 @@ use std::marker::Model;
 /// The class hierarchy of a program. Contracts see it as the list of its classes, each named by its
 /// place in it.
 ///
-/// It keeps for each class a list of its supertypes in which each stands once, and a table of names.
-/// No look-up takes memory. With d superclasses and s supertypes of the class, n classes in all and
-/// m members that the classes asked declare, `is_subclass` takes d steps, `is_subtype` s steps and
-/// log n comparisons of names, `find_field`, `find_method` and `select` s + m comparisons of names.
+/// It keeps for each class what stands above it and an index of its members, and tables of names and
+/// numbers. No look-up takes memory, and none costs more where a class declares more members:
+/// `docs/HIERARCHY.md` has the cost of each.
 #[derive(Debug, Drop)]
 pub struct Hierarchy {
-    classes: Vec<ClassInfo>,
+    classes: Seq<ClassInfo>,
     above: Vec<Ancestors>,
+    members: Vec<Members>,
     names: BTreeMap<Vec<u8>, u32>,
+    fields: BTreeMap<u32, Place>,
+    methods: BTreeMap<u32, Place>,
 }
 
 impl Model for Hierarchy {
@@ -37,9 +39,9 @@ impl Model for Hierarchy {
 
     ghost Value = { List ClassInfo };
 
-    ghost view = { λ h. h.classes.items };
+    ghost view = { λ h. h.classes };
 
-    ghost invariant = { λ h. IsHierarchy h.classes.items h.above.items h.names };
+    ghost invariant = { λ h. IsHierarchy h.classes h.above.items h.members.items h.names h.fields h.methods };
 }
 
 impl Hierarchy {
@@ -49,16 +51,31 @@ impl Hierarchy {
         requires few { length classes.items < 2 ^ 32 }
         ensures { IfOk result (λ hierarchy. hierarchy ≡ classes.items) }
     {
-        let names = names_of(alloc, classes.as_slice())?;
-        let above = match order_of(alloc, classes.as_slice())? {
-            Some(order) => ancestors_of(alloc, classes.as_slice(), order.as_slice())?,
+        let list = classes.as_slice();
+        let above = match order_of(alloc, list)? {
+            Some(order) => ancestors_of(alloc, list, order.as_slice())?,
             None => unreachable!(),
         };
+        let members = members_of(alloc, list)?;
+        let names = names_of(alloc, list)?;
+        let fields = places_of(alloc, field_numbers(alloc, list)?.as_slice())?;
+        let methods = places_of(alloc, method_numbers(alloc, list)?.as_slice())?;
         Ok(Hierarchy {
-            classes,
+            classes: Seq::from_vec(classes),
             above,
+            members,
             names,
+            fields,
+            methods,
         })
+    }
+
+    /// A copy, made anew from a copy of the classes.
+    pub fn copy(&self, alloc: Global) -> Result<Hierarchy, AllocError>
+        ensures { IfOk result (λ copy. copy ≡ self.now) }
+    {
+        let classes = self.classes.copy(alloc)?;
+        Hierarchy::new(alloc, classes.into_vec())
     }
 
     /// The classes, in the order of their numbers.
@@ -70,6 +87,41 @@ impl Hierarchy {
         self.classes.as_slice()
     }
 
+    /// The first class of a name; `None` exactly where there is none.
+    pub fn find_class(&self, name: &[u8]) -> Option<ClassId>
+        ensures { option_map (λ class. class.0) result ≡ class_named self.now name.now }
+    {
+        self.names.get(name).map(|number| ClassId(*number))
+    }
+
+    /// The first field of this number, class by class, and the class that declares it; `None` exactly
+    /// where there is none.
+    pub fn field(&self, id: FieldId) -> Option<(ClassId, &FieldInfo)>
+        ensures { option_map (λ found. (found.0.0, found.1.now)) result ≡ numbered_field self.now id.0 }
+    {
+        match self.fields.get(&id.0) {
+            Some(place) => {
+                let class = &self.classes.as_slice()[place.class as usize];
+                Some((ClassId(place.class), &class.fields.as_slice()[place.at]))
+            }
+            None => None,
+        }
+    }
+
+    /// The first method of this number, class by class, and the class that declares it; `None` exactly
+    /// where there is none.
+    pub fn method(&self, id: MethodId) -> Option<(ClassId, &MethodInfo)>
+        ensures { option_map (λ found. (found.0.0, found.1.now)) result ≡ numbered_method self.now id.0 }
+    {
+        match self.methods.get(&id.0) {
+            Some(place) => {
+                let class = &self.classes.as_slice()[place.class as usize];
+                Some((ClassId(place.class), &class.methods.as_slice()[place.at]))
+            }
+            None => None,
+        }
+    }
+
     /// Whether the first class is the second or has it as a superclass, near or far. An interface has
     /// the superclass of its class file.
     pub fn is_subclass(&self, a: ClassId, b: ClassId) -> bool
@@ -77,38 +129,104 @@ impl Hierarchy {
         requires b { b.0 < length self.now }
         ensures { result ≡ is_subclass self.now a.0 b.0 }
     {
-        reaches(self.classes.as_slice(), a.0 as usize, b.0 as usize)
+        let line = self.above[a.0 as usize].line.as_slice();
+        let rest = self.above[b.0 as usize].line.len();
+        if line.len() < rest {
+            return false;
+        }
+        line[line.len() - rest] == b.0
     }
 
-    /// The field of this name and descriptor that field resolution finds for a class: its own, else
-    /// that of its superinterfaces and what stands above them, else that of its superclass in the same
-    /// way (Java specification 5.4.3.2).
+    /// Whether the first class is the second or has it above itself, as a superclass or an interface
+    /// (Java language specification 4.10.2).
+    pub fn is_class_subtype(&self, a: ClassId, b: ClassId) -> bool
+        requires { a.0 < length self.now }
+        ensures { result ≡ has (supertypes_of self.now a.0) b.0 }
+    {
+        self.above[a.0 as usize].all.contains(b.0)
+    }
+
+    /// The field of this name and descriptor that field resolution finds for a class, and the class that
+    /// declares it: its own, else that of its superinterfaces and what stands above them, else that of
+    /// its superclass in the same way (Java specification 5.4.3.2).
+    pub fn resolve_field(
+        &self,
+        class: ClassId,
+        name: &[u8],
+        descriptor: &[u8],
+    ) -> Option<(ClassId, &FieldInfo)>
+        requires { class.0 < length self.now }
+        ensures { option_map (λ found. (found.0.0, found.1.now)) result ≡ resolved_field self.now class.0 name.now descriptor.now }
+    {
+        let order = self.above[class.0 as usize].supertypes.as_slice();
+        field_along(
+            self.classes.as_slice(),
+            self.members.as_slice(),
+            order,
+            name,
+            descriptor,
+        )
+    }
+
+    /// The number of the field that field resolution finds.
     pub fn find_field(&self, class: ClassId, name: &Text, descriptor: &Text) -> Option<FieldId>
         requires { class.0 < length self.now }
         ensures { result ≡ field_of self.now class.0 name.now descriptor.now }
     {
-        let order = self.above[class.0 as usize].supertypes.as_slice();
-        field_along(self.classes.as_slice(), order, name, descriptor)
+        self.resolve_field(class, name.as_bytes(), descriptor.as_bytes())
+            .map(|found| found.1.id)
     }
 
-    /// The method of this name and descriptor that method resolution finds for a class: its own or the
-    /// nearest superclass's, else that of the first superinterface to declare one. `<init>` is looked
-    /// for in the class alone (Java specification 5.4.3.3, 5.4.3.4).
+    /// The method of this name and descriptor that a class declares itself.
+    pub fn declared_method(
+        &self,
+        class: ClassId,
+        name: &[u8],
+        descriptor: &[u8],
+    ) -> Option<&MethodInfo>
+        requires { class.0 < length self.now }
+        ensures { option_copied result ≡ declared_method self.now name.now descriptor.now class.0 }
+    {
+        let at = class.0 as usize;
+        method_in(
+            &self.classes.as_slice()[at],
+            &self.members[at],
+            name,
+            descriptor,
+        )
+    }
+
+    /// The method of this name and descriptor that method resolution finds for a class, and the class
+    /// that declares it: its own or the nearest superclass's, else that of the first superinterface to
+    /// declare one. `<init>` is looked for in the class alone (Java specification 5.4.3.3, 5.4.3.4).
+    pub fn resolve_method(
+        &self,
+        class: ClassId,
+        name: &[u8],
+        descriptor: &[u8],
+    ) -> Option<(ClassId, &MethodInfo)>
+        requires { class.0 < length self.now }
+        ensures { option_map (λ found. (found.0.0, found.1.now)) result ≡ resolved_method self.now class.0 name.now descriptor.now }
+    {
+        if name == CONSTRUCTOR.as_bytes() {
+            return self
+                .declared_method(class, name, descriptor)
+                .map(|method| (class, method));
+        }
+        let above = &self.above[class.0 as usize];
+        match self.method_on(above.line.as_slice(), name, descriptor) {
+            Some(found) => Some(found),
+            None => self.method_on(above.superinterfaces.as_slice(), name, descriptor),
+        }
+    }
+
+    /// The number of the method that method resolution finds.
     pub fn find_method(&self, class: ClassId, name: &Text, descriptor: &Text) -> Option<MethodId>
         requires { class.0 < length self.now }
         ensures { result ≡ method_of self.now class.0 name.now descriptor.now }
     {
-        let at = class.0 as usize;
-        if name.as_bytes() == b"<init>".as_slice() {
-            return method_in(&self.classes[at], name, descriptor).map(|method| method.id);
-        }
-        match method_upwards(self.classes.as_slice(), at, name, descriptor) {
-            Some(found) => Some(found),
-            None => {
-                let order = self.above[at].superinterfaces.as_slice();
-                method_along(self.classes.as_slice(), order, name, descriptor)
-            }
-        }
+        self.resolve_method(class, name.as_bytes(), descriptor.as_bytes())
+            .map(|found| found.1.id)
     }
 
     /// The method that a call on a receiver of this class runs: the first instance method of this name
@@ -118,7 +236,17 @@ impl Hierarchy {
         requires { class.0 < length self.now }
         ensures { result ≡ selected_method self.now class.0 name.now descriptor.now }
     {
-        select_upwards(self.classes.as_slice(), class.0 as usize, name, descriptor)
+        let method = overriding_along(
+            self.classes.as_slice(),
+            self.members.as_slice(),
+            self.above[class.0 as usize].line.as_slice(),
+            name.as_bytes(),
+            descriptor.as_bytes(),
+        );
+        match method {
+            Some(found) if !found.is_abstract => Some(found.id),
+            _ => None,
+        }
     }
 
     /// Whether the first type is a subtype of the second. Types are named by class names and array
@@ -129,10 +257,17 @@ impl Hierarchy {
     pub fn is_subtype(&self, a: &Text, b: &Text) -> bool
         ensures { result ≡ is_subtype self.now a.now b.now }
     {
-        match (named(a.as_bytes()), named(b.as_bytes())) {
+        self.is_subtype_named(a.as_bytes(), b.as_bytes())
+    }
+
+    /// The same, of names that are borrowed.
+    pub fn is_subtype_named(&self, a: &[u8], b: &[u8]) -> bool
+        ensures { result ≡ is_subtype self.now a.now b.now }
+    {
+        match (named(a), named(b)) {
             (Shape::Array(left), Shape::Array(right)) => self.is_component_subtype(left, right),
             (Shape::Array(_), Shape::Class(right)) => is_above_arrays(right),
-            (Shape::Class(left), Shape::Class(right)) => self.is_class_subtype(left, right),
+            (Shape::Class(left), Shape::Class(right)) => self.is_name_below(left, right),
             _ => false,
         }
     }
@@ -150,7 +285,7 @@ impl Hierarchy {
                     upper = t;
                 }
                 (Shape::Array(_), Shape::Class(name)) => return is_above_arrays(name),
-                (Shape::Class(s), Shape::Class(t)) => return self.is_class_subtype(s, t),
+                (Shape::Class(s), Shape::Class(t)) => return self.is_name_below(s, t),
                 (Shape::Primitive, Shape::Primitive) => return lower == upper,
                 _ => return false,
             }
@@ -158,33 +293,34 @@ impl Hierarchy {
     }
 
     // Whether a class is a subtype of another, by their names.
-    fn is_class_subtype(&self, a: &[u8], b: &[u8]) -> bool
+    fn is_name_below(&self, a: &[u8], b: &[u8]) -> bool
         ensures { result ≡ is_class_subtype self.now a.now b.now }
     {
         if a == b {
             return true;
         }
         match (self.find_class(a), self.find_class(b)) {
-            (Some(i), Some(j)) => self.stands_above(i, j),
+            (Some(i), Some(j)) => self.is_class_subtype(i, j),
             _ => false,
         }
     }
 
-    // Whether a class stands above another, or is it.
-    fn stands_above(&self, class: u32, above: u32) -> bool
-        requires { class < length self.now }
-        ensures { result ≡ list_any (λ k. k == above) (supertypes_of self.now class) }
+    // Along a list of classes, the first that declares the method, and the method.
+    fn method_on(
+        &self,
+        order: &[u32],
+        name: &[u8],
+        descriptor: &[u8],
+    ) -> Option<(ClassId, &MethodInfo)>
+        requires { (c : ℕ) → has order.now c ≡ true → c < length self.now }
+        ensures { option_map (λ found. (found.0.0, found.1.now)) result ≡ first_method self.now name.now descriptor.now order.now }
     {
-        self.above[class as usize]
-            .supertypes
-            .as_slice()
-            .contains(&above)
-    }
-
-    // The first class of a name.
-    fn find_class(&self, name: &[u8]) -> Option<u32>
-        ensures { result ≡ class_named self.now name.now }
-    {
-        self.names.get(name).copied()
+        method_along(
+            self.classes.as_slice(),
+            self.members.as_slice(),
+            order,
+            name,
+            descriptor,
+        )
     }
 }
