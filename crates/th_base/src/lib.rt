@@ -1,7 +1,7 @@
 //! The plain values that every layer speaks of, and the class hierarchy.
 //!
-//! Texts, sequences, names and sets of numbers are seen by contracts as lists, so that a value that
-//! a layer makes can be compared with the value of a definition. Numbers of classes, methods,
+//! Texts, sequences, stacks, names and sets of numbers are seen by contracts as lists, so that a value
+//! that a layer makes can be compared with the value of a definition. Numbers of classes, methods,
 //! fields, nodes, registers, sites and edges are types of their own.
 //!
 //! The layers above use that a copy is equal to what it was copied from (`TryCopy`), that a

@@ -51,7 +51,7 @@ impl Bytes {
 
     fn text(&mut self, text: &[u8]) -> Result<(), AllocError> {
         self.u1(1)?;
-        self.u2(text.len() as u16)?;
+        self.u2(u16::try_from(text.len()).unwrap_or(u16::MAX))?;
         self.bytes.extend_from_slice(text)
     }
 
