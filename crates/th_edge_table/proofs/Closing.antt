@@ -1,4 +1,5 @@
 -- The table at its end: the seat with all parts knows all that was decided.
+use Rattle.th_edge_table.specs.declared.state.TheConstants.{PARTS}
 use Rattle.std.proofs.Common.{◌≡◌, ◌≢◌, ◌⊎◌, ℕ, zero, suc, ◌+◌, ◌<◌, ◌≤◌, false, List, [], ◌∷◌, ◌++◌, length, get_or, refl, sym, ap, ◌∙◌, subst, inl, inr, arith, length-append, add-one, Some, None}
 use Rattle.std.specs.Prelude.{Contains, slice_get}
 use Rattle.std.proofs.lemmas.List.{get_or_append_left}
@@ -14,7 +15,7 @@ use Rattle.th_edge_table.specs.declared.word.Verdict.{Verdict}
 use Rattle.th_edge_table.specs.declared.word.Word.{Word}
 use Rattle.th_edge_table.specs.declared.word.Word.TheVariants.{Free, Claimed, Decided}
 use Rattle.th_edge_table.specs.declared.state.CoreSeat.{CoreSeat}
-use Rattle.th_edge_table.specs.Number.{word_of}
+use Rattle.th_edge_table.specs.Encoding.{word_of}
 use Rattle.th_edge_table.specs.Facts.{times, Lives, live_part, SixFacts}
 use Rattle.th_edge_table.specs.Running.{word_in, Ruled, words_from}
 use Rattle.th_edge_table.proofs.Lists.{at_read, two_le_sum}
@@ -55,7 +56,7 @@ pub record Closing (ws : List Word) (n : ℕ) (v : CoreSeat) : Type 0 where
   pub free : (e : EdgeId) → e.0 < n → (slice_get ws e.0 ≡ Some Free) ⊎ ((d : Verdict) × Contains v.done (e, d))
   pub once : (e : EdgeId) → times e v.done ≤ 1
 
-module _ (n : ℕ) (s : State (Unit {0}) CoreSeat) (r : Ruled n s) (i : ℕ) (v : CoreSeat) (here : Lives s.views i v) (whole : v.part ≡ 65536) (none : v.in_flight ≡ None) where
+module _ (n : ℕ) (s : State (Unit {0}) CoreSeat) (r : Ruled n s) (i : ℕ) (v : CoreSeat) (here : Lives s.views i v) (whole : v.part ≡ PARTS) (none : v.in_flight ≡ None) where
   abbrev w : ℕ → Word
   w = word_in s.words
 
@@ -103,7 +104,7 @@ module _ (n : ℕ) (s : State (Unit {0}) CoreSeat) (r : Ruled n s) (i : ℕ) (v 
 
 -- the same of the words that were read
 pub closes : (n m : ℕ) (row : List ℕ) (ws : List Word) (s : State (Unit {0}) CoreSeat) (i : ℕ) (v u : CoreSeat) → Ruled n s → s.words ≡ row → ws ≡ words_from row n → n ≡ m → get_elem? s.views i ≡ some v → v.ended ≡ false
-    → v ≡ u → u.part ≡ 65536 → u.in_flight ≡ None → Closing ws m u
+    → v ≡ u → u.part ≡ PARTS → u.in_flight ≡ None → Closing ws m u
 closes n m row ws s i v u r is read count at live q whole none =
     let c = closing_at n s r i v (at, live) (ap (λ (x : CoreSeat). x.part) q ∙ whole) (ap (λ (x : CoreSeat). x.in_flight) q ∙ none) in
     let words : words_from s.words n ≡ ws = ap (λ (l : List ℕ). words_from l n) is ∙ sym read in

@@ -1,4 +1,5 @@
 -- The counted facts are the six facts.
+use Rattle.th_edge_table.specs.declared.state.TheConstants.{PARTS}
 use Rattle.std.proofs.Common.{◌≡◌, ℕ, ◌+◌, ◌<◌, ◌≤◌, ◌⊎◌, Bool, true, false, cond, List, sym, refl, ap, ◌∙◌, subst, inl, inr, arith, Option, Some, None}
 use Rattle.std.specs.Prelude.{Contains}
 use mathlib.Core.Logic.{dite}
@@ -26,7 +27,7 @@ at_most Free = omega arith
 at_most Claimed = omega arith
 at_most (Decided d) = omega arith
 
-module _ (w : ℕ → Word) (seats : List CoreSeat) (c : Counted w 65536 seats) where
+module _ (w : ℕ → Word) (seats : List CoreSeat) (c : Counted w PARTS seats) where
   few : (i : ℕ) (v : CoreSeat) (e : EdgeId) → Lives seats i v → flies e v.in_flight + times e v.done ≤ 1
   few i v e h =
       let a = at_le_sum (flights e) seats i v h.0 in let b = at_le_sum (dones e) seats i v h.0 in
@@ -73,13 +74,13 @@ module _ (w : ℕ → Word) (seats : List CoreSeat) (c : Counted w 65536 seats) 
   pub six_facts : SixFacts w seats
   six_facts = record {
     claimed = λ e h. let k = claimed_by e h in (k.0, (k.1, k.2, k.3));
-    in_flight = λ e i f. flown w 65536 seats i f.0 e c f.1.0 f.1.1 f.2;
+    in_flight = λ e i f. flown w PARTS seats i f.0 e c f.1.0 f.1.1 f.2;
     one_flight = λ e i j f g. alone_flying j g.0 g.1 e g.2 i f.0 f.1 f.2;
     decided = λ e d h. let k = decided_by e d h in (k.0, (k.1, k.2, k.3));
     done = λ e d i k. (c.each i k.0 k.1).done e d k.2;
     one_done = λ e d d' i j k m. alone_done j m.0 m.1 e (times_contains e d' m.0.done m.2) i k.0 k.1 (times_contains e d k.0.done k.2);
     done_once = λ i v h e. let q = few i v e h in omega arith;
-    apart = λ e d i j k f. let a = (c.each i k.0 k.1).done e d k.2 in let b = flown w 65536 seats j f.0 e c f.1.0 f.1.1 f.2 in let z : Decided d ≡ Claimed = sym a ∙ b in absurd (cc);
+    apart = λ e d i j k f. let a = (c.each i k.0 k.1).done e d k.2 in let b = flown w PARTS seats j f.0 e c f.1.0 f.1.1 f.2 in let z : Decided d ≡ Claimed = sym a ∙ b in absurd (cc);
     seen = λ i v h e x k. (c.each i v h).seen e x k;
     taken_once = λ i v h e. let t = (c.each i v h).taken e in let q = few i v e h in omega arith;
     taken = λ i v h e k m. taken_is v (c.each i v h) e k m;

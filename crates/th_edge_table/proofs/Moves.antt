@@ -1,4 +1,5 @@
 -- Each step of the running table is one event of the core, so it keeps the rule.
+use Rattle.th_edge_table.specs.declared.state.TheConstants.{PARTS}
 use Rattle.std.proofs.Common.{◌≡◌, ℕ, ◌+◌, ◌<◌, ◌≤◌, ◌==◌, false, [], ◌∷◌, ◌++◌, get_or, set, sym, refl, ap, ◌∙◌, subst, arith, Some, None, length-set}
 use mathlib.Core.Logic.{dite}
 use mathlib.Core.Option as lower
@@ -11,7 +12,7 @@ use Rattle.th_edge_table.specs.declared.word.Verdict.{Verdict}
 use Rattle.th_edge_table.specs.declared.word.Word.{Word}
 use Rattle.th_edge_table.specs.declared.word.Word.TheVariants.{Free, Claimed, Decided}
 use Rattle.th_edge_table.specs.declared.state.CoreSeat.{CoreSeat}
-use Rattle.th_edge_table.specs.Number.{word_of}
+use Rattle.th_edge_table.specs.Encoding.{word_of}
 use Rattle.th_edge_table.specs.Core.{newcomer, spent, saw, claimed, published, parted, joined}
 use Rattle.th_edge_table.specs.Facts.{times, Faithful}
 use Rattle.th_edge_table.specs.Running.{word_in, Ruled, looks_once, claims_once, publishes_once}
@@ -36,12 +37,12 @@ faithful w v e flown o = record {
   done = o.done e;
 }
 
-known : (n : ℕ) (s : State (Unit {0}) CoreSeat) → Ruled n s → Counted (word_in s.words) 65536 s.views
+known : (n : ℕ) (s : State (Unit {0}) CoreSeat) → Ruled n s → Counted (word_in s.words) PARTS s.views
 known n s r = counted (word_in s.words) s.views r.facts
 
 module _ (n slots id : ℕ) (e : EdgeId) (me : Me (Unit {0}) CoreSeat) (within : e.0 < n) (live : me.0.ended ≡ false) where
   told : (s : State (Unit {0}) CoreSeat) → Ruled n s → lib.ListN.get_elem? s.views id ≡ lower.some me.0 → Faithful me.0 e (word_in s.words e.0)
-  told s r at = faithful (word_in s.words) me.0 e (move.flown (word_in s.words) 65536 s.views id me.0 e (known n s r) at live) ((known n s r).each id me.0 (at, live))
+  told s r at = faithful (word_in s.words) me.0 e (move.flown (word_in s.words) PARTS s.views id me.0 e (known n s r) at live) ((known n s r).each id me.0 (at, live))
 
   pub looks : Allows (Ruled n) slots id me (e.0 + 1) (λ x. x) (looks_once (step slots (e.0 + 1) 0 0 lower.none) me)
   looks s r _ at _ =
@@ -52,7 +53,7 @@ module _ (n slots id : ℕ) (e : EdgeId) (me : Me (Unit {0}) CoreSeat) (within :
         saw e (word_of x) me.0,
         keeps,
         tt,
-        record { wide = length-set s.words (e.0 + 1) x ∙ r.wide; facts = six_facts (word_in words) (set s.views id (saw e (word_of x) me.0)) (move.looks w (word_in words) 65536 s.views id me.0 e (known n s r) at live same) },
+        record { wide = length-set s.words (e.0 + 1) x ∙ r.wide; facts = six_facts (word_in words) (set s.views id (saw e (word_of x) me.0)) (move.looks w (word_in words) PARTS s.views id me.0 e (known n s r) at live same) },
         λ f q. let P : EdgeId → Type 0 = λ g. ◌≡◌ {A = Me (Unit {0}) CoreSeat} (saw e (word_of x) me.0, me.1) (saw g (word_of x) me.0, me.1) × Faithful me.0 g (word_of x) in
             subst P (same_word e f q) (refl, told s r at),
       )
@@ -69,7 +70,7 @@ module _ (n slots id : ℕ) (e : EdgeId) (me : Me (Unit {0}) CoreSeat) (within :
         record {
           wide = length-set s.words (e.0 + 1) y ∙ r.wide;
           facts = six_facts (word_in words) (set s.views id (claimed e (word_of x) me.0))
-              (move.claims_it w (word_in words) 65536 s.views id me.0 e (known n s r) at live none (word_of x) refl (at_edge s.words n e.0 y r.wide within ∙ exchanged x) (elsewhere s.words n e.0 y r.wide within));
+              (move.claims_it w (word_in words) PARTS s.views id me.0 e (known n s r) at live none (word_of x) refl (at_edge s.words n e.0 y r.wide within ∙ exchanged x) (elsewhere s.words n e.0 y r.wide within));
         },
         λ f q. let P : EdgeId → Type 0 = λ g. ◌≡◌ {A = Me (Unit {0}) CoreSeat} (claimed e (word_of x) me.0, me.1) (claimed g (word_of x) me.0, me.1) × Faithful me.0 g (word_of x) in
             subst P (same_word e f q) (refl, told s r at),
@@ -85,7 +86,7 @@ module _ (n slots id : ℕ) (e : EdgeId) (me : Me (Unit {0}) CoreSeat) (within :
         record {
           wide = length-set s.words (e.0 + 1) new ∙ r.wide;
           facts = six_facts (word_in words) (set s.views id (published e d me.0))
-              (move.publishes w (word_in words) 65536 s.views id me.0 e d (known n s r) at live up (at_edge s.words n e.0 new r.wide within ∙ is) (elsewhere s.words n e.0 new r.wide within));
+              (move.publishes w (word_in words) PARTS s.views id me.0 e d (known n s r) at live up (at_edge s.words n e.0 new r.wide within ∙ is) (elsewhere s.words n e.0 new r.wide within));
         },
         λ f g q h. let z : Decided d ≡ Decided g = sym is ∙ h in let same : d ≡ g = cc in λ i. (published (same_word e f q i) (same i) me.0, me.1),
       )
@@ -95,7 +96,7 @@ splits n id v live two s r at = record { wide = r.wide; facts = six_facts (word_
 
 pub joins : (n id other : ℕ) (v u : CoreSeat) → v.ended ≡ false → u.ended ≡ false → u.in_flight ≡ None → Joins (Ruled n) id v other u (joined v u) spent
 joins n id other v u live live' none s r at apart there =
-    record { wide = r.wide; facts = six_facts (word_in s.words) (set (set s.views id (joined v u)) other spent) (move.joins (word_in s.words) 65536 s.views id other v u spent (known n s r) at live apart (sym (set_else s.views id other (joined v u) apart) ∙ there) live' none refl) }
+    record { wide = r.wide; facts = six_facts (word_in s.words) (set (set s.views id (joined v u)) other spent) (move.joins (word_in s.words) PARTS s.views id other v u spent (known n s r) at live apart (sym (set_else s.views id other (joined v u) apart) ∙ there) live' none refl) }
 
 pub claimed_lives : (e : EdgeId) (w : Word) (v : CoreSeat) → (claimed e w v).ended ≡ v.ended
 claimed_lives e Free v = refl

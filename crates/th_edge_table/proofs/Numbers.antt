@@ -8,7 +8,7 @@ use Rattle.th_edge_table.specs.declared.word.Kind.TheVariants.{Refuted, Witnesse
 use Rattle.th_edge_table.specs.declared.word.Verdict.{Verdict}
 use Rattle.th_edge_table.specs.declared.word.Word.{Word}
 use Rattle.th_edge_table.specs.declared.word.Word.TheVariants.{Free, Claimed, Decided}
-use Rattle.th_edge_table.specs.Number.{kind_number_of, kind_of, number_of, verdict_of, word_of}
+use Rattle.th_edge_table.specs.Encoding.{kind_number_of, kind_of, number_of, verdict_of, word_of}
 use Rattle.th_edge_table.specs.Core.{claim_word}
 use Rattle.th_edge_table.specs.Running.{word_in}
 

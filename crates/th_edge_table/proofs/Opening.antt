@@ -1,4 +1,5 @@
 -- The opening state has the counted facts.
+use Rattle.th_edge_table.specs.declared.state.TheConstants.{PARTS}
 use Rattle.std.proofs.Common.{◌≡◌, ℕ, zero, suc, [], ◌∷◌, replicate, sym, refl, ap, subst, arith}
 use mathlib.Core.Option.{some, some-injective, some-ne-none}
 use lib.ListN.{get_elem?}
@@ -13,7 +14,7 @@ free_at zero e = refl
 free_at (suc n) zero = refl
 free_at (suc n) (suc e) = free_at n e
 
-pub opens : (w : ℕ → Word) → ((e : ℕ) → w e ≡ Free) → Counted w 65536 (newcomer 65536 ∷ [])
+pub opens : (w : ℕ → Word) → ((e : ℕ) → w e ≡ Free) → Counted w PARTS (newcomer PARTS ∷ [])
 opens w free = record {
   claimed = λ e. sym (ap claims (free e.0));
   decided = λ e. sym (ap decides (free e.0));
@@ -21,7 +22,7 @@ opens w free = record {
   parts = refl;
 }
   where
-    first : Own w (newcomer 65536)
+    first : Own w (newcomer PARTS)
     first = record {
       done = λ e d h. absurd (omega (arith, h.1));
       seen = λ e x h. absurd (omega (arith, h.1));
@@ -30,9 +31,9 @@ opens w free = record {
       part = omega arith;
     }
 
-    own : (i : ℕ) (v : CoreSeat) → get_elem? (newcomer 65536 ∷ []) i ≡ some v → Own w v
+    own : (i : ℕ) (v : CoreSeat) → get_elem? (newcomer PARTS ∷ []) i ≡ some v → Own w v
     own zero v h = subst (Own w) (some-injective _ _ h) first
     own (suc i) v h = absurd (some-ne-none v (sym h))
 
-pub opened : (n : ℕ) → Counted (word_at (opening n).words) 65536 (opening n).seats
+pub opened : (n : ℕ) → Counted (word_at (opening n).words) PARTS (opening n).seats
 opened n = opens (word_at (replicate n Free)) (free_at n)

@@ -1,5 +1,6 @@
 -- Every list of events keeps the counted facts.
-use Rattle.std.proofs.Common.{◌≡◌, ℕ, zero, suc, false, List, [], ◌∷◌, set, sym, refl, get_or-set_same, get_or-set_other}
+use Rattle.th_edge_table.specs.declared.state.TheConstants.{PARTS}
+use Rattle.std.proofs.Common.{◌≡◌, ◌-◌, ℕ, zero, suc, false, List, [], ◌∷◌, set, sym, refl, get_or-set_same, get_or-set_other}
 use mathlib.Core.Option.{some}
 use lib.ListN.{get_elem?}
 use Rattle.th_edge_table.specs.declared.word.Word.TheVariants.{Free, Decided}
@@ -21,16 +22,16 @@ there (x ∷ xs) zero h = refl
 there (x ∷ xs) (suc s) h = there xs s h
 
 abbrev pub Good : CoreState → Type 0
-Good c = Counted (word_at c.words) 65536 c.seats
+Good c = Counted (word_at c.words) PARTS c.seats
 
 pub kept : (c : CoreState) (x : CoreEvent) → Good c → Allowed c x → Good (happens c x)
-kept c (Look s e) g a = looks (word_at c.words) (word_at c.words) 65536 c.seats s (seat_at c.seats s) e g (there c.seats s a.0) a.0 (λ f. refl)
-kept c (Claim s e) g a = claims_it (word_at c.words) (word_at (set c.words e.0 (claim_word (word_at c.words e.0)))) 65536 c.seats s (seat_at c.seats s) e g (there c.seats s a.0) a.0 a.2
+kept c (Look s e) g a = looks (word_at c.words) (word_at c.words) PARTS c.seats s (seat_at c.seats s) e g (there c.seats s a.0) a.0 (λ f. refl)
+kept c (Claim s e) g a = claims_it (word_at c.words) (word_at (set c.words e.0 (claim_word (word_at c.words e.0)))) PARTS c.seats s (seat_at c.seats s) e g (there c.seats s a.0) a.0 a.2
     (word_at c.words e.0) refl (get_or-set_same c.words e.0 (claim_word (word_at c.words e.0)) Free a.1) (λ f q. get_or-set_other c.words e.0 f (claim_word (word_at c.words e.0)) Free q)
-kept c (Publish s e d) g a = publishes (word_at c.words) (word_at (set c.words e.0 (Decided d))) 65536 c.seats s (seat_at c.seats s) e d g (there c.seats s a.0) a.0 a.2
+kept c (Publish s e d) g a = publishes (word_at c.words) (word_at (set c.words e.0 (Decided d))) PARTS c.seats s (seat_at c.seats s) e d g (there c.seats s a.0) a.0 a.2
     (get_or-set_same c.words e.0 (Decided d) Free a.1) (λ f q. get_or-set_other c.words e.0 f (Decided d) Free q)
-kept c (Split s) g a = splits (word_at c.words) 65535 c.seats s (seat_at c.seats s) g (there c.seats s a.0) a.0 a.1
-kept c (Join s t) g a = joins (word_at c.words) 65536 c.seats s t (seat_at c.seats s) (seat_at c.seats t) (ended (seat_at c.seats t)) g (there c.seats s a.0) a.0
+kept c (Split s) g a = splits (word_at c.words) (PARTS - 1) c.seats s (seat_at c.seats s) g (there c.seats s a.0) a.0 a.1
+kept c (Join s t) g a = joins (word_at c.words) PARTS c.seats s t (seat_at c.seats s) (seat_at c.seats t) (ended (seat_at c.seats t)) g (there c.seats s a.0) a.0
     (λ q. a.2 (sym q)) (there c.seats t a.1) a.1 a.3 refl
 
 pub kept_all : (c : CoreState) (xs : List CoreEvent) → Good c → AllAllowed c xs → Good (replayed c xs)

@@ -1,4 +1,5 @@
 -- The six facts are the counted facts.
+use Rattle.th_edge_table.specs.declared.state.TheConstants.{PARTS}
 use Rattle.std.proofs.Common.{◌≡◌, ℕ, Bool, true, false, cond, List, refl, sym, ap, ◌∙◌, ⊎_elim, arith, Some}
 use Rattle.std.specs.Prelude.{Contains, sum_by}
 use mathlib.Core.Logic.{dite}
@@ -61,5 +62,5 @@ module _ (w : ℕ → Word) (seats : List CoreSeat) (f : SixFacts w seats) where
     part = f.part i v h;
   }
 
-  pub counted : Counted w 65536 seats
+  pub counted : Counted w PARTS seats
   counted = record { claimed = λ e. claimed_is e (w e.0) refl; decided = λ e. decided_is e (w e.0) refl; each = own; parts = f.parts }

@@ -1,5 +1,6 @@
 -- The core of the edge table: one word for each edge, a list of seats, and five kinds of event.
 -- Seats are named by their places in the list, and their lists name edges as `EdgeId`s.
+use Rattle.th_edge_table.specs.declared.state.TheConstants.{PARTS}
 use Rattle.std.specs.Prelude.{◌≡◌, ℕ, ◌+◌, ◌-◌, ◌<◌, ◌≤◌, ◌≢◌, true, false, List, [], ◌∷◌, ◌++◌, length, slice_index_or, slice_set, replicate, Some, None}
 use Rattle.th_base.specs.declared.number.EdgeId.{EdgeId}
 use Rattle.th_edge_table.specs.declared.word.Verdict.{Verdict}
@@ -20,7 +21,7 @@ spent = record { seen = []; taken = []; done = []; in_flight = None; part = 0; e
 
 -- all words free, and one seat with all parts
 abbrev pub opening : ℕ → CoreState
-opening n = record { words = replicate n Free; seats = newcomer 65536 ∷ [] }
+opening n = record { words = replicate n Free; seats = newcomer PARTS ∷ [] }
 
 -- a seat after it read a word of an edge
 abbrev pub saw : EdgeId → Word → CoreSeat → CoreSeat

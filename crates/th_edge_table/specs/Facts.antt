@@ -1,4 +1,5 @@
 -- The six facts: what holds of the words and of the seats that have not ended, between any two events.
+use Rattle.th_edge_table.specs.declared.state.TheConstants.{PARTS}
 use Rattle.std.specs.Prelude.{◌≡◌, ◌≢◌, ◌⊎◌, ℕ, ◌<◌, ◌≤◌, ◌==◌, false, cond, List, length, Contains, count_by, sum_by, Some}
 use mathlib.Core.Option.{some}
 use lib.ListN.{get_elem?}
@@ -64,4 +65,4 @@ pub record SixFacts (word : ℕ → Word) (seats : List CoreSeat) : Type 0 where
       → (e : EdgeId) (k : ℕ) → Contains v.taken (e, k) → k ≤ length v.seen
   -- 6. the parts are positive and add up to 65,536
   pub part : (i : ℕ) (v : CoreSeat) → Lives seats i v → 0 < v.part
-  pub parts : sum_by live_part seats ≡ 65536
+  pub parts : sum_by live_part seats ≡ PARTS

@@ -1,4 +1,4 @@
-pub mod Number
+pub mod Encoding
 pub mod Core
 pub mod Facts
 pub mod Running

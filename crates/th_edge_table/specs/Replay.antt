@@ -1,5 +1,5 @@
 -- What a replay of events speaks of.
-use Rattle.std.specs.Prelude.{◌≡◌, ◌≢◌, ℕ, zero, suc, ◌+◌, ◌<◌, Bool, MatchBool, List, [], ◌∷◌, length}
+use Rattle.std.specs.Prelude.{◌≡◌, ◌≢◌, ℕ, zero, suc, ◌+◌, ◌^◌, ◌<◌, Bool, MatchBool, List, [], ◌∷◌, length}
 use Rattle.th_edge_table.specs.declared.state.CoreState.{CoreState}
 use Rattle.th_edge_table.specs.declared.state.CoreEvent.{CoreEvent}
 use Rattle.th_edge_table.specs.Core.{seat_at, IsThere, Allowed, happens}
@@ -17,6 +17,6 @@ MakesIfAllowed x old made new =
 
 -- the numbers of the next event have room: the length of a seat's `seen`, and the sum of two seats' parts
 pub record HasRoom (c : CoreState) : Type 0 where
-  pub seen : (s : ℕ) → length (seat_at c.seats s).seen < 4294967296
+  pub seen : (s : ℕ) → length (seat_at c.seats s).seen < 2 ^ 32
   pub parts : (s t : ℕ) → s ≢ t → IsThere c s → IsThere c t
-      → (seat_at c.seats s).part + (seat_at c.seats t).part < 4294967296
+      → (seat_at c.seats s).part + (seat_at c.seats t).part < 2 ^ 32

@@ -7,7 +7,7 @@ use Rattle.th_edge_table.specs.declared.word.Verdict.{Verdict}
 use Rattle.th_edge_table.specs.declared.word.Word.{Word}
 use Rattle.th_edge_table.specs.declared.word.Word.TheVariants.{Decided}
 use Rattle.th_edge_table.specs.declared.state.CoreSeat.{CoreSeat}
-use Rattle.th_edge_table.specs.Number.{word_of}
+use Rattle.th_edge_table.specs.Encoding.{word_of}
 use Rattle.th_edge_table.specs.Core.{saw, claimed, published}
 use Rattle.th_edge_table.specs.Facts.{SixFacts, Faithful}
 

@@ -6,14 +6,11 @@ ghost use Rattle.th_edge_table.specs.Core.{opening, IsThere, HasEdge, seat_at, A
 ghost use Rattle.th_edge_table.specs.Facts.{SixFacts};
 ghost use Rattle.th_edge_table.specs.Replay.{IsFirstBad, MakesIfAllowed, HasRoom};
 
-use crate::state::{BadEvent, CoreEvent, CoreSeat, CoreState};
+use crate::state::{BadEvent, CoreEvent, CoreSeat, CoreState, PARTS};
 use crate::word::{Verdict, Word};
 use std::alloc::{AllocError, Global};
 use std::marker::Model;
 use th_base::{EdgeId, Fail, Seq};
-
-/// How many parts the first seat has.
-const PARTS: u32 = 65536;
 
 // The core while events happen to it.
 #[derive(Drop)]
@@ -32,6 +29,7 @@ impl Model for Core {
 
 // In each of the calls that answer a `bool`, true says that the event was allowed and is made.
 impl Core {
+    // The core of a table with n edges before any event.
     fn opening(alloc: Global, n: u32) -> Result<Core, AllocError>
         ensures { IfOk result (λ core. core ≡ opening n) }
     {
@@ -41,6 +39,7 @@ impl Core {
         Ok(Core { words, seats })
     }
 
+    // Whether the seat is there and has not ended.
     fn is_there(&self, seat: u32) -> bool
         ensures { IsTrue result ↔ IsThere self.now seat }
     {
@@ -58,6 +57,7 @@ impl Core {
         self.seats[seat as usize].in_flight
     }
 
+    // Whether the edge is there.
     fn has_edge(&self, edge: EdgeId) -> bool
         ensures { IsTrue result ↔ HasEdge self.now edge }
     {
@@ -133,6 +133,7 @@ impl Core {
         Ok(true)
     }
 
+    // The event of any kind.
     fn make(&mut self, alloc: Global, event: CoreEvent) -> Result<bool, AllocError>
         requires { HasRoom self.old }
         ensures { IfOk result (λ made. MakesIfAllowed event self.old made self.new) }

@@ -11,18 +11,17 @@
 //! (`laws::schedules`). `replay` is the core as a call.
 #![tactic(auto)]
 
+mod encoding;
 mod events;
 pub mod laws;
-mod number;
 mod rule;
-mod seat;
 mod state;
 mod table;
 mod word;
 
 pub use events::replay;
-pub use state::{BadEvent, CoreEvent, CoreSeat, CoreState};
-pub use table::{EdgeTable, Seat};
+pub use state::{BadEvent, CoreEvent, CoreSeat, CoreState, PARTS};
+pub use table::{EdgeTable, MOST_EDGES, Seat};
 pub use word::{Claim, Kind, Verdict, Word};
 
 #[cfg(test)]

@@ -2,20 +2,21 @@
 use crate::state::CoreSeat;
 use atomic_table::{Join, Play, Split, TableRule};
 
-/// The rule is the six facts. The key is the number of edges.
-pub struct OneClaim;
+// The rule is the six facts. The key is the number of edges.
+pub(crate) struct OneClaim;
 
 impl TableRule<(), CoreSeat, u32> for OneClaim {
+    ghost use Rattle.th_edge_table.specs.declared.state.TheConstants.{PARTS};
     ghost use Rattle.th_edge_table.specs.Core.{newcomer};
     ghost use Rattle.th_edge_table.specs.Running.{Ruled};
 
     ghost holds = { Ruled };
 
-    ghost first = { λ _. newcomer 65536 };
+    ghost first = { λ _. newcomer PARTS };
 }
 
-/// A load of an edge's word.
-pub struct Look;
+// A load of an edge's word.
+pub(crate) struct Look;
 
 impl Play<(), CoreSeat> for Look {
     ghost use Rattle.th_edge_table.specs.Running.{looks_once};
@@ -23,8 +24,8 @@ impl Play<(), CoreSeat> for Look {
     ghost then = { looks_once };
 }
 
-/// A compare and exchange of an edge's word.
-pub struct Take;
+// A compare and exchange of an edge's word.
+pub(crate) struct Take;
 
 impl Play<(), CoreSeat> for Take {
     ghost use Rattle.th_edge_table.specs.Running.{claims_once};
@@ -32,8 +33,8 @@ impl Play<(), CoreSeat> for Take {
     ghost then = { claims_once };
 }
 
-/// A store of an edge's word.
-pub struct Publish;
+// A store of an edge's word.
+pub(crate) struct Publish;
 
 impl Play<(), CoreSeat> for Publish {
     ghost use Rattle.th_edge_table.specs.Running.{publishes_once};
@@ -41,8 +42,8 @@ impl Play<(), CoreSeat> for Publish {
     ghost then = { publishes_once };
 }
 
-/// A load of the word that never changes, at which a seat is split or two are joined.
-pub struct OnePart;
+// A load of the word that never changes, at which a seat is split or two are joined.
+pub(crate) struct OnePart;
 
 impl Split<CoreSeat> for OnePart {
     ghost use Rattle.th_edge_table.specs.Core.{parted, newcomer};

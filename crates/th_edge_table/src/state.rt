@@ -3,7 +3,11 @@ ghost use Rattle.std.specs.Prelude.{◌≡◌, IfOk};
 
 use crate::word::{Verdict, Word};
 use std::alloc::{AllocError, Global};
+use std::fmt;
 use th_base::{EdgeId, Same, Seq, TryCopy};
+
+/// A table has so many parts, which its seats share.
+pub const PARTS: u32 = 65536;
 
 /// What a seat knows of the table, and what it has done.
 #[derive(Debug, Drop)]
@@ -16,7 +20,7 @@ pub struct CoreSeat {
     pub done: Seq<(EdgeId, Verdict)>,
     /// The edge that it claimed and has not published yet.
     pub in_flight: Option<EdgeId>,
-    /// Its share of the 65,536 parts of the table.
+    /// Its share of the parts of the table.
     pub part: u32,
     /// Whether it was joined into another seat.
     pub ended: bool,
@@ -65,7 +69,78 @@ pub struct BadEvent {
     pub event: u32,
 }
 
+impl fmt::Display for BadEvent {
+    fn fmt<W: fmt::Write>(&self, f: &mut fmt::Formatter<W>) -> fmt::Result {
+        let event = self.event;
+        write!(f, "event {event} is not allowed")
+    }
+}
+
 impl CoreSeat {
+    ghost use Rattle.std.specs.Prelude.{◌+◌, ◌^◌, ◌<◌, ◌++◌, length, OnOk};
+    ghost use Rattle.th_edge_table.specs.Core.{newcomer, saw, got, published};
+
+    // A seat with nothing in its lists.
+    pub(crate) fn newcomer(alloc: Global, part: u32) -> CoreSeat
+        ensures { result ≡ newcomer part }
+    {
+        CoreSeat {
+            seen: Seq::new(alloc),
+            taken: Seq::new(alloc),
+            done: Seq::new(alloc),
+            in_flight: None,
+            part,
+            ended: false,
+        }
+    }
+
+    // The seat has read a word of an edge.
+    pub(crate) fn see(&mut self, edge: EdgeId, word: Word) -> Result<(), AllocError>
+        ensures { OnOk result (self.new ≡ saw edge word self.old) }
+    {
+        self.seen.push((edge, word))?;
+        Ok(())
+    }
+
+    // The seat has claimed a free edge.
+    pub(crate) fn take(&mut self, edge: EdgeId) -> Result<(), AllocError>
+        requires { length self.old.seen < 2 ^ 32 }
+        ensures { OnOk result (self.new ≡ got edge self.old) }
+    {
+        let seen = self.seen.len() as u32;
+        self.taken.push((edge, seen))?;
+        self.in_flight = Some(edge);
+        Ok(())
+    }
+
+    // The seat has published the verdict of the edge that it had in flight.
+    pub(crate) fn publish(&mut self, edge: EdgeId, verdict: Verdict) -> Result<(), AllocError>
+        ensures { OnOk result (self.new ≡ published edge verdict self.old) }
+    {
+        self.done.push((edge, verdict))?;
+        self.in_flight = None;
+        Ok(())
+    }
+
+    // The parts and the list of what another seat has done come to this one.
+    pub(crate) fn take_over(
+        &mut self,
+        done: &[(EdgeId, Verdict)],
+        part: u32,
+    ) -> Result<(), AllocError>
+        requires { self.old.part + part < 2 ^ 32 }
+        ensures { OnOk result (self.new ≡ record self.old {
+          done = self.old.done ++ done.now;
+          part = self.old.part + part;
+        }) }
+    {
+        for entry in done {
+            self.done.push(*entry)?;
+        }
+        self.part += part;
+        Ok(())
+    }
+
     /// A copy of the seat.
     pub fn copy(&self, alloc: Global) -> Result<CoreSeat, AllocError>
         ensures { IfOk result (λ copy. copy ≡ self.now) }

@@ -8,14 +8,17 @@ ghost use Rattle.th_edge_table.specs.Core.{newcomer, saw, claimed, published, pa
 ghost use Rattle.th_edge_table.specs.Facts.{Faithful, times};
 ghost use Rattle.th_edge_table.specs.Places.{at, found_by};
 
-use crate::number::{CLAIMED, FREE, decode, encode};
+use crate::encoding::{CLAIMED, FREE, decode, encode};
 use crate::rule::{Look, OneClaim, OnePart, Publish, Take};
-use crate::state::CoreSeat;
+use crate::state::{CoreSeat, PARTS};
 use crate::word::{Claim, Verdict, Word};
 use atomic_table::{Closed, Table};
 use std::alloc::{AllocError, Global};
 use std::marker::Model;
 use th_base::EdgeId;
+
+/// A table has no more edges.
+pub const MOST_EDGES: u32 = 65535;
 
 /// One word for each edge, which threads share by `&`.
 #[derive(Drop)]
@@ -26,6 +29,7 @@ pub struct EdgeTable {
 
 impl Model for EdgeTable {
     ghost use Rattle.std.specs.Prelude.{◌≡◌, ◌+◌, ◌≤◌};
+    ghost use Rattle.th_edge_table.specs.declared.table.TheConstants.{MOST_EDGES};
     ghost use Rattle.th_edge_table.specs.Places.{Board};
 
     ghost Value = { Board };
@@ -33,7 +37,7 @@ impl Model for EdgeTable {
     ghost view = { λ t. record { id = t.table.shared.table_id; edges = t.edges } };
 
     ghost invariant = { λ t. (t.table.shared.key ≡ t.edges) × (t.table.shared.table_id.words ≡ t.edges + 1)
-        × (t.table.shared.table_id.slots ≡ 0) × (t.edges ≤ 65535) };
+        × (t.table.shared.table_id.slots ≡ 0) × (t.edges ≤ MOST_EDGES) };
 }
 
 /// What one worker knows of the table and has done. It has no bytes: it exists for the proof alone.
@@ -54,10 +58,10 @@ impl Model for Seat {
 }
 
 impl EdgeTable {
-    /// A table whose edges are all free, and the seat that has all 65,536 parts.
+    /// A table whose edges are all free, and the seat that has all parts.
     pub fn new(alloc: Global, n: u32) -> Result<(EdgeTable, Seat), AllocError>
-        requires { n ≤ 65535 }
-        ensures { IfOk result (λ r. (r.0.edges ≡ n) × (r.1 ≡ at r.0.id (newcomer 65536))) }
+        requires { n ≤ MOST_EDGES }
+        ensures { IfOk result (λ r. (r.0.edges ≡ n) × (r.1 ≡ at r.0.id (newcomer PARTS))) }
     {
         let words = vec![in alloc; FREE; n as usize + 1]?;
         let (table, seat) = Table::of_words(alloc, words.as_slice(), &n)?;
@@ -67,7 +71,7 @@ impl EdgeTable {
     /// How many edges the table has.
     pub fn edges(&self) -> u32
         ensures count { result ≡ self.now.edges }
-        ensures bound { result ≤ 65535 }
+        ensures bound { result ≤ MOST_EDGES }
     {
         self.edges
     }
@@ -143,7 +147,7 @@ impl EdgeTable {
     /// the only error, the table and the seat come back as they were.
     pub fn close(self, alloc: Global, seat: Seat) -> Result<Vec<Word>, (EdgeTable, Seat)>
         requires table { seat.table ≡ self.id }
-        requires whole { (seat.view.part ≡ 65536) × (seat.view.in_flight ≡ None) }
+        requires whole { (seat.view.part ≡ PARTS) × (seat.view.in_flight ≡ None) }
         ensures len { IfOk result (λ words. vec_len words ≡ self.edges) }
         ensures decided { IfOk result (λ words. (e : EdgeId) (d : _)
             → (slice_get words.items e.0 ≡ Some (Word.Decided d)) ↔ Contains seat.view.done (e, d)) }

@@ -1,6 +1,6 @@
 use Rattle.std.proofs.Common.{◌≡◌, refl, sym, ap, ◌∙◌, arith}
 use Rattle.th_edge_table.specs.declared.word.Word.TheVariants.{Decided}
-use Rattle.th_edge_table.specs.Number.{word_of}
+use Rattle.th_edge_table.specs.Encoding.{word_of}
 use Rattle.th_edge_table.specs.Places.{Board, Place}
 use Rattle.th_edge_table.proofs.Moves.{publishes}
 use Rattle.th_edge_table.proofs.Numbers.{word_back}
