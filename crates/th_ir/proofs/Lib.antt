@@ -3,6 +3,7 @@ pub mod Apart
 pub mod Applied
 pub mod Changes
 pub mod Covering
+pub mod HarnessKinds
 pub mod Heaps
 pub mod ListedFacts
 pub mod Nests

@@ -9,6 +9,7 @@ pub mod Fresh
 pub mod Good
 pub mod Graph
 pub mod Harness
+pub mod HarnessKinds
 pub mod Machine
 pub mod Nesting
 pub mod Plan
