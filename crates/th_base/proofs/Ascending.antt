@@ -9,6 +9,7 @@ use Rattle.std.proofs.lemmas.List.{append-nil, length-drop, get_or-drop, take-ap
 use Rattle.std.proofs.lemmas.List.Elements.{filter-append}
 use Rattle.std.proofs.lemmas.List.Sorted.{searched}
 use Rattle.th_base.specs.IdSet.{has, IsAscending, inserted, union_of}
+use Rattle.th_base.proofs.Booleans.{or_assoc, or_false, or_over}
 
 -- ---- what holds of each number
 
@@ -53,13 +54,9 @@ all_at P (x ∷ xs) a (suc i) h = all_at P xs a.1 i (omega arith)
 
 -- ---- membership
 
-or_assoc : (a b c : Bool) → (a || (b || c)) ≡ ((a || b) || c)
-or_assoc true b c = refl
-or_assoc false b c = refl
-
 pub has-append : (xs ys : List ℕ) (x : ℕ) → has (xs ++ ys) x ≡ (has xs x || has ys x)
 has-append [] ys x = refl
-has-append (z ∷ zs) ys x = ap (λ b. eqb z x || b) (has-append zs ys x) ∙ or_assoc (eqb z x) (has zs x) (has ys x)
+has-append (z ∷ zs) ys x = ap (λ b. eqb z x || b) (has-append zs ys x) ∙ sym (or_assoc (eqb z x) (has zs x) (has ys x))
 
 -- no number that is above all is in the list
 pub absent_below : (x : ℕ) (xs : List ℕ) → AllByRecursion (λ y. x < y) xs → has xs x ≡ false
@@ -101,19 +98,10 @@ has-inserted y xs x =
       | inr (inr more) ↦ rw (ne_eqb y x (omega arith), le-ltb x y (omega arith), lt-ltb y x more) refl
     ])
 
-or_middle : (a b c : Bool) → (a || (b || c)) ≡ (b || (a || c))
-or_middle true true c = refl
-or_middle true false c = refl
-or_middle false b c = refl
-
-or_false : (a : Bool) → a ≡ (a || false)
-or_false true = refl
-or_false false = refl
-
 pub has-union_of : (xs ys : List ℕ) (x : ℕ) → has (union_of xs ys) x ≡ (has xs x || has ys x)
-has-union_of xs [] x = or_false (has xs x)
+has-union_of xs [] x = sym (or_false (has xs x))
 has-union_of xs (y ∷ ys) x =
-    has-inserted y (union_of xs ys) x ∙ ap (λ b. eqb y x || b) (has-union_of xs ys x) ∙ or_middle (eqb y x) (has xs x) (has ys x)
+    has-inserted y (union_of xs ys) x ∙ ap (λ b. eqb y x || b) (has-union_of xs ys x) ∙ or_over (eqb y x) (has xs x) (has ys x)
 
 -- ---- order
 

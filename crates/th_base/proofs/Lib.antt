@@ -1,5 +1,6 @@
 pub mod Alike
 pub mod Ascending
+pub mod Booleans
 pub mod Built
 pub mod DepthFirst
 pub mod Enough

@@ -17,30 +17,32 @@ pub enum Elem {
     Short,
 }
 
-/// An operation on two ints (Java specification 2.11.3).
+/// An operation on two ints, or on two longs (Java specification 2.11.3). The second operand of a
+/// shift is an int in both.
 #[derive(Clone, Copy, Debug, PartialEq, Eq)]
 pub enum ArithOp {
-    /// `iadd`: the sum.
+    /// `iadd`, `ladd`: the sum.
     Add,
-    /// `isub`: the difference.
+    /// `isub`, `lsub`: the difference.
     Sub,
-    /// `imul`: the product.
+    /// `imul`, `lmul`: the product.
     Mul,
-    /// `idiv`: the quotient, rounded towards 0.
+    /// `idiv`, `ldiv`: the quotient, rounded towards 0.
     Div,
-    /// `irem`: the remainder of that quotient.
+    /// `irem`, `lrem`: the remainder of that quotient.
     Rem,
-    /// `ishl`: a shift to the left by the low five bits of the second.
+    /// `ishl`, `lshl`: a shift to the left, by the low five bits of the second, of a long by the
+    /// low six.
     Shl,
-    /// `ishr`: a shift to the right that keeps the sign.
+    /// `ishr`, `lshr`: a shift to the right by as many bits, which keeps the sign.
     Shr,
-    /// `iushr`: a shift to the right that fills with zeros.
+    /// `iushr`, `lushr`: a shift to the right by as many bits, which fills with zeros.
     Ushr,
-    /// `iand`: bitwise and.
+    /// `iand`, `land`: bitwise and.
     And,
-    /// `ior`: bitwise or.
+    /// `ior`, `lor`: bitwise or.
     Or,
-    /// `ixor`: bitwise exclusive or.
+    /// `ixor`, `lxor`: bitwise exclusive or.
     Xor,
 }
 

@@ -1,5 +1,5 @@
 // Bytes that need not be UTF-8: names and descriptors as they stand in class files.
-ghost use Rattle.std.specs.Prelude.{◌≡◌, ◌↔◌, [], ◌++◌, length, IfOk, OnOk, OnErr, IsTrue, Some};
+ghost use Rattle.std.specs.Prelude.{◌≡◌, ◌↔◌, [], length, IfOk, IsTrue, Some};
 ghost use Rattle.std.specs.Str.{bytes_eq};
 ghost use Rattle.std.specs.Ordering.{nat_cmp};
 ghost use Rattle.std.specs.Cmp.Lexicographic.{slice_cmp};
@@ -13,12 +13,14 @@ use std::alloc::{AllocError, Global};
 use std::cmp::Ordering;
 use std::hash::{Hash, Hasher};
 use std::marker::Model;
+use std::sync::Arc;
 
 /// Bytes, such as a name or a descriptor of a class file (Java specification 4.4.7). They are not
-/// decoded. Contracts see them as a list; texts are ordered byte by byte.
+/// decoded. Contracts see them as a list; texts are ordered byte by byte. All copies of a text hold
+/// the same bytes, in any threads. Texts are built in a vector, and made from it.
 #[derive(Debug, Drop)]
 pub struct Text {
-    bytes: Vec<u8>,
+    bytes: Arc<Vec<u8>>,
 }
 
 impl Model for Text {
@@ -26,40 +28,31 @@ impl Model for Text {
 
     ghost Value = { List ℕ };
 
-    ghost view = { λ t. t.bytes.items };
+    ghost view = { λ t. t.bytes.value.items };
 }
 
 impl Text {
-    /// No bytes. Takes no memory.
-    pub fn new(alloc: Global) -> Text
-        ensures { result ≡ [] }
+    /// No bytes.
+    pub fn new(alloc: Global) -> Result<Text, AllocError>
+        ensures { IfOk result (λ text. text ≡ []) }
     {
-        Text {
-            bytes: Vec::new(alloc),
-        }
+        Text::from_vec(Vec::new(alloc))
     }
 
     /// A copy of these bytes.
     pub fn from_slice(alloc: Global, bytes: &[u8]) -> Result<Text, AllocError>
         ensures { IfOk result (λ text. text ≡ bytes.now) }
     {
-        let bytes = Vec::from_slice(alloc, bytes)?;
+        Text::from_vec(Vec::from_slice(alloc, bytes)?)
+    }
+
+    /// The bytes of a vector. Takes memory for a count of the copies, none for the bytes.
+    pub fn from_vec(bytes: Vec<u8>) -> Result<Text, AllocError>
+        ensures { IfOk result (λ text. text ≡ bytes.items) }
+    {
+        let alloc = *bytes.allocator();
+        let bytes = Arc::new(alloc, bytes)?;
         Ok(Text { bytes })
-    }
-
-    /// The bytes of a vector. Takes no memory.
-    pub fn from_vec(bytes: Vec<u8>) -> Text
-        ensures { result ≡ bytes.items }
-    {
-        Text { bytes }
-    }
-
-    /// The bytes as a vector. Takes no memory.
-    pub fn into_vec(self) -> Vec<u8>
-        ensures { result.items ≡ self }
-    {
-        let Text { bytes } = self;
-        bytes
     }
 
     /// The bytes, borrowed.
@@ -83,19 +76,13 @@ impl Text {
         self.bytes.is_empty()
     }
 
-    /// Adds bytes at the end. After want of memory the text is as before.
-    pub fn push_bytes(&mut self, more: &[u8]) -> Result<(), AllocError>
-        ensures ok { OnOk result (self.new ≡ self.old ++ more.now) }
-        ensures err { OnErr result (self.new ≡ self.old) }
-    {
-        self.bytes.extend_from_slice(more)
-    }
-
-    /// A copy of the text.
-    pub fn copy(&self, alloc: Global) -> Result<Text, AllocError>
+    /// A copy of the text, which holds the same bytes. Takes no memory, and fails only where 2^63
+    /// copies are held.
+    pub fn copy(&self, _alloc: Global) -> Result<Text, AllocError>
         ensures { IfOk result (λ text. text ≡ self.now) }
     {
-        Text::from_slice(alloc, self.as_bytes())
+        let bytes = Arc::try_clone(&self.bytes)?;
+        Ok(Text { bytes })
     }
 }
 

@@ -3,6 +3,7 @@ ghost use Rattle.std.specs.Prelude.{◌≡◌, IfOk};
 
 use crate::{IdSet, Lifecycle, Name, Same, Seq, Stack, Text, TryCopy};
 use std::alloc::{AllocError, Global};
+use std::marker::{Send, Sync};
 use std::test::Fail;
 
 fn set_of(alloc: Global, ids: &[u32]) -> Result<IdSet, AllocError> {
@@ -90,6 +91,18 @@ fn stacks_begin_with_the_top(rt: HostRuntime) -> Result<(), Fail> {
     Ok(())
 }
 
+// Any thread may hold the value, and several at once.
+fn across<T: Send + Sync>(value: &T) -> &T {
+    value
+}
+
+#[test]
+fn texts_cross_threads(rt: HostRuntime) -> Result<(), Fail> {
+    let text = Text::from_slice(rt.alloc(), b"ab")?;
+    assert_eq!(rt; across(&text).len(), 2);
+    Ok(())
+}
+
 #[test]
 fn items_are_copied_by_a_function(rt: HostRuntime) -> Result<(), Fail> {
     let alloc = rt.alloc();
@@ -107,9 +120,9 @@ fn items_are_copied_by_a_function(rt: HostRuntime) -> Result<(), Fail> {
 #[test]
 fn plain_values_are_copied_and_compared(rt: HostRuntime) -> Result<(), Fail> {
     let alloc = rt.alloc();
-    let mut word = Text::from_slice(alloc, b"a")?;
-    word.push_bytes(b"b")?;
-    assert!(rt; word.same(&Text::from_slice(alloc, b"ab")?));
+    let word = Text::from_slice(alloc, b"ab")?;
+    assert!(rt; word.try_copy(alloc)?.same(&Text::from_vec(vec![in alloc; b'a', b'b']?)?));
+    assert!(rt; Text::new(alloc)?.is_empty());
     let name = Name::from_str(alloc, "Act.class")?;
     assert!(rt; name.try_copy(alloc)?.same(&name));
     let set = set_of(alloc, &[2, 1])?;

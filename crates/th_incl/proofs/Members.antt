@@ -9,7 +9,7 @@ use Rattle.std.proofs.lemmas.List.Elements.{recursion_from_All, filter-append}
 use Rattle.std.proofs.lemmas.List.Kept.{AllPairs-from_increasing, Contains-dedup_nat, Contains-from_dedup}
 use Rattle.std.proofs.lemmas.List.Sorted.{Contains-permutation, IsPermutation-sym}
 use Rattle.std.proofs.lemmas.Map.Keys.{IsStrictlyIncreasing-dedup}
-use Rattle.th_base.specs.IdSet.{has, inserted, union_of, IsAscending}
+use Rattle.th_base.specs.IdSet.{has, inserted, union_of, intersection_of, IsAscending}
 use Rattle.th_base.proofs.Ascending.{has-append, has-inserted, has-union_of, has_first, absent_below, all_weaker, same_members, IsAscending-inserted, IsAscending-union_of}
 use Rattle.th_base.proofs.Membership.{Contains-from_has, has-from_Contains}
 use Rattle.th_incl.specs.Parts.{SameMembers, missing}
@@ -74,39 +74,13 @@ IsAscending-push (x ∷ z ∷ zs) y a h =
         subst (λ i. get_or (x ∷ z ∷ zs) i 0 < y) e (h (omega arith))) in
     ((less, all_weaker (λ w. z < w) (λ w. x < w) (λ w g. omega arith) (zs ++ y ∷ []) rest.0), rest)
 
--- ---- unions
+-- ---- lists that have no number in common
 
-or_assoc : (a b c : Bool) → (a || (b || c)) ≡ (b || (a || c))
-or_assoc true true c = refl
-or_assoc true false c = refl
-or_assoc false b c = refl
-
--- a set with the first numbers of a list in it takes the next one
-pub takes_next : (old set : List ℕ) (ids : List ℕ) (i : ℕ) → i < length ids → ((x : ℕ) → has set x ≡ (has old x || has (take i ids) x))
-    → (x : ℕ) → has (inserted (get_or ids i 0) set) x ≡ (has old x || has (take (i + 1) ids) x)
-takes_next old set ids i l h x =
-    let y = get_or ids i 0 in
-    has-inserted y set x
-    ∙ ap (λ b. eqb y x || b) (h x)
-    ∙ or_assoc (eqb y x) (has old x) (has (take i ids) x)
-    ∙ ap (λ b. has old x || b) (sym (has_push_is (take i ids) y x) ∙ ap (λ t. has t x) (sym (take_more ids i 0 l)))
-
-is_union : (old set ids : List ℕ) → IsAscending old → IsAscending set → ((x : ℕ) → has set x ≡ (has old x || has ids x)) → set ≡ union_of old ids
-is_union old set ids a b h = same_members set (union_of old ids) b (IsAscending-union_of old ids a) (λ x. h x ∙ sym (has-union_of old ids x))
-
--- and with all of them in it, it is the union
-pub takes_all : (old set ids : List ℕ) (i : ℕ) → length ids ≤ i → IsAscending old → IsAscending set → ((x : ℕ) → has set x ≡ (has old x || has (take i ids) x)) → set ≡ union_of old ids
-takes_all old set ids i l a b h = is_union old set ids a b (λ x. h x ∙ ap (λ t. has old x || has t x) (take_past i ids l))
-  where
-    take_past : (i : ℕ) (xs : List ℕ) → length xs ≤ i → take i xs ≡ xs
-    take_past zero [] l = refl
-    take_past zero (x ∷ xs) l = absurd (omega arith)
-    take_past (suc i) [] l = refl
-    take_past (suc i) (x ∷ xs) l = ap (λ t. x ∷ t) (take_past i xs (omega arith))
-
--- from nothing, an ascending list makes itself
-pub union_of_none : (ids : List ℕ) → IsAscending ids → union_of [] ids ≡ ids
-union_of_none ids a = same_members (union_of [] ids) ids (IsAscending-union_of [] ids tt) a (has-union_of [] ids)
+pub apart_by : (xs ys : List ℕ) → ((x : ℕ) → has ys x ≡ true → has xs x ≡ false) → intersection_of xs ys ≡ []
+apart_by [] ys h = refl
+apart_by (x ∷ xs) ys h =
+    let absent : has ys x ≡ false = elim (cases_Bool (has ys x)) [ inl t ↦ absurd (both_ways _ (h x t) (has_first x xs)) | inr f ↦ f ] in
+    rw absent (apart_by xs ys (λ z e. (or_parts (eqb x z) (has xs z) (h z e)).1))
 
 -- ---- lengths
 

@@ -9,7 +9,6 @@
 //! means, `specs/View.antt` what contracts see of a solver, and `laws` what readers expect of both.
 #![tactic(auto)]
 
-mod absorb;
 mod additions;
 mod constraints;
 mod filter;

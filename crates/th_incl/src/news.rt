@@ -1,10 +1,11 @@
 // The numbers that a set doesn't hold yet.
-ghost use Rattle.std.specs.Prelude.{◌≡◌, ◌↔◌, ◌∷◌, ◌++◌, [], true, length, OnOk, IsTrue};
+ghost use Rattle.std.specs.Prelude.{◌≡◌, ◌↔◌, ◌∷◌, ◌++◌, [], true, length, IfOk, OnOk, IsTrue};
 ghost use Rattle.th_base.specs.IdSet.{IsAscending};
 ghost use Rattle.th_incl.specs.Parts.{SameMembers};
 
 use std::alloc::{AllocError, Global};
 use std::marker::Model;
+use th_base::IdSet;
 
 // Numbers that are to go into a set, in any order and maybe more than once. Contracts see them as a
 // list.
@@ -39,22 +40,30 @@ impl News {
         }
     }
 
-    pub(crate) fn len(&self) -> usize
-        ensures { result ≡ length self.now }
-    {
-        self.ids.len()
-    }
-
     pub(crate) fn is_empty(&self) -> bool
         ensures { IsTrue result ↔ (self.now ≡ []) }
     {
         self.ids.is_empty()
     }
 
-    pub(crate) fn ids(&self) -> &[u32]
-        ensures { result.now ≡ self.now }
+    // The numbers of a set. Takes no memory.
+    pub(crate) fn from_set(set: IdSet) -> News
+        ensures { result ≡ set }
     {
-        self.ids.as_slice()
+        News {
+            ids: set.into_vec(),
+            is_ascending: true,
+        }
+    }
+
+    // The numbers as a set.
+    pub(crate) fn into_set(mut self) -> Result<IdSet, AllocError>
+        ensures members { IfOk result (λ set. SameMembers self set) }
+        ensures ascending { IfOk result (λ set. IsAscending set) }
+    {
+        self.sort()?;
+        let News { ids, .. } = self;
+        Ok(IdSet::from_ascending(ids))
     }
 
     // Adds a number.
@@ -68,27 +77,30 @@ impl News {
         Ok(())
     }
 
-    // Puts the numbers in order, each once.
-    pub(crate) fn sort(&mut self)
-        ensures members { SameMembers self.old self.new }
-        ensures ascending { IsAscending self.new }
+    // Puts the numbers in order, each once. They came as ascending runs, one from each inclusion,
+    // which the sort merges.
+    fn sort(&mut self) -> Result<(), AllocError>
+        ensures members { OnOk result (SameMembers self.old self.new) }
+        ensures ascending { OnOk result (IsAscending self.new) }
     {
-        if !self.is_ascending {
-            self.ids.sort_unstable();
-            self.ids.dedup();
-            self.is_ascending = true;
+        if self.is_ascending {
+            return Ok(());
         }
+        self.ids.sort()?;
+        self.ids.dedup();
+        self.is_ascending = true;
+        Ok(())
     }
 
     // Where there is no room, drops repeats, and takes half as much again where at most a quarter came
     // free.
     fn make_room(&mut self) -> Result<(), AllocError>
-        ensures { SameMembers self.old self.new }
+        ensures { OnOk result (SameMembers self.old self.new) }
     {
         if self.ids.len() < self.ids.capacity() || self.ids.len() < FEW {
             return Ok(());
         }
-        self.sort();
+        self.sort()?;
         let len = self.ids.len();
         if len / 3 < self.ids.capacity() / 4 {
             return Ok(());

@@ -1,15 +1,16 @@
 // A run: steps in rounds, until no set has news or the limit is reached.
-ghost use Rattle.std.specs.Prelude.{◌≡◌, ◌<◌, ◌≤◌, [], true, false, length, IfOk, OnOk, MatchOption};
+ghost use Rattle.std.specs.Prelude.{◌≡◌, ◌<◌, ◌≤◌, ℕ, [], true, false, length, IfOk, OnOk, MatchOption};
 ghost use Rattle.th_incl.specs.Kept.{constraints_of, IsConsistent, Kept, Settles, Stops, Steps};
-ghost use Rattle.th_incl.specs.Least.{IsLeast};
+ghost use Rattle.th_incl.specs.Least.{In, is_in, IsLeast};
 ghost use Rattle.th_incl.specs.Run.{Progress, IsOver};
 
 use crate::news::News;
 use crate::passing::spread;
 use crate::system::System;
-use crate::work::{Work, absorb_at, put_news, take_news};
+use crate::work::{Work, absorb, put_news, take_news};
 use std::alloc::{AllocError, Global};
 use std::mem;
+use th_base::IdSet;
 
 // Takes the news of a set into it and gives them; `None` where the sets would hold more pairs than
 // the limit.
@@ -18,21 +19,21 @@ fn settle(
     work: &mut Work,
     set: usize,
     limit: u64,
-) -> Result<Option<News>, AllocError>
+) -> Result<Option<IdSet>, AllocError>
     requires within { work.old.pairs ≤ limit }
     requires sets { set < length work.old.sets.items }
     requires news { set < length work.old.news.items }
+    requires apart { (x : ℕ) → In work.old.news.items set x → is_in work.old.sets.items set x ≡ false }
     ensures within { OnOk result (work.new.pairs ≤ limit) }
     ensures settles { IfOk result (λ r. MatchOption r (Stops limit set work.old work.new) (Settles set work.old work.new)) }
 {
-    let mut fresh = take_news(alloc, &mut work.news, set);
-    fresh.sort();
+    let fresh = take_news(alloc, &mut work.news, set).into_set()?;
     let count = fresh.len() as u64;
     if count > limit - work.pairs {
-        put_news(&mut work.news, set, fresh);
+        put_news(&mut work.news, set, News::from_set(fresh));
         return Ok(None);
     }
-    absorb_at(alloc, &mut work.sets, set, fresh.ids())?;
+    absorb(&mut work.sets, set, &fresh)?;
     work.pairs += count;
     Ok(Some(fresh))
 }

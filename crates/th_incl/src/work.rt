@@ -1,9 +1,8 @@
 // The sets, and what is left to do.
 ghost use Rattle.std.specs.Prelude.{◌≡◌, ◌<◌, ◌^◌, [], length, slice_set, OnOk};
-ghost use Rattle.th_base.specs.IdSet.{union_of, IsAscending};
+ghost use Rattle.th_base.specs.IdSet.{union_of, intersection_of};
 ghost use Rattle.th_incl.specs.Least.{set_at};
 
-use crate::absorb::absorb;
 use crate::news::News;
 use std::alloc::{AllocError, Global};
 use std::mem;
@@ -36,17 +35,23 @@ pub(crate) fn put_news(news: &mut Vec<News>, set: usize, ids: News)
     news[set] = ids;
 }
 
-// Adds ascending numbers to one of the sets.
-pub(crate) fn absorb_at(
-    alloc: Global,
-    sets: &mut Vec<IdSet>,
-    set: usize,
-    ids: &[u32],
-) -> Result<(), AllocError>
+// Adds numbers to one of the sets, which has none of them.
+pub(crate) fn absorb(sets: &mut Vec<IdSet>, set: usize, fresh: &IdSet) -> Result<(), AllocError>
     requires inside { set < length sets.old.items }
-    requires ascending { IsAscending ids.now }
-    ensures sets { OnOk result (sets.new.items ≡ slice_set sets.old.items set (union_of (set_at sets.old.items set) ids.now)) }
-    ensures fits { OnOk result (length (union_of (set_at sets.old.items set) ids.now) < 2 ^ 64) }
+    requires apart { intersection_of (set_at sets.old.items set) fresh.now ≡ [] }
+    ensures sets { OnOk result (sets.new.items ≡ slice_set sets.old.items set (union_of (set_at sets.old.items set) fresh.now)) }
+    ensures fits { OnOk result (length (union_of (set_at sets.old.items set) fresh.now) < 2 ^ 64) }
 {
-    absorb(alloc, &mut sets[set], ids)
+    add_apart(&mut sets[set], fresh)
+}
+
+fn add_apart(set: &mut IdSet, fresh: &IdSet) -> Result<(), AllocError>
+    requires { intersection_of set.old fresh.now ≡ [] }
+    ensures union { OnOk result (set.new ≡ union_of set.old fresh.now) }
+    ensures fits { OnOk result (length (union_of set.old fresh.now) < 2 ^ 64) }
+{
+    set.insert_apart(fresh)?;
+    // For the proof, which takes from it how long a set can be.
+    let _size = set.len();
+    Ok(())
 }

@@ -282,11 +282,11 @@ by_statement h p t s f below node (Init k) c wf at is proper obeys apart e =
     elim e [
       | inl passes ↦ set_none h p t s f node c passes
       | inr calls ↦ subst (Allowed h p t s f node) (sym calls.2) record {
-            callee = proper.1 calls.0 calls.1;
-            reached = obeys calls.0 calls.1;
-            waits = subst (λ (w : Stmt). Waits h p t f.node w calls.0) (sym is) calls.1;
-            passed = λ method stands. nothing_passed (IsPassed p t s) (map (λ (r : Reg). r.0) method.params);
-          }
+        callee = proper.1 calls.0 calls.1;
+        reached = obeys calls.0 calls.1;
+        waits = subst (λ (w : Stmt). Waits h p t f.node w calls.0) (sym is) calls.1;
+        passed = λ method stands. nothing_passed (IsPassed p t s) (map (λ (r : Reg). r.0) method.params);
+      }
     ]
 by_statement h p t s f below node (Return src) c wf at is proper obeys apart e = subst (Allowed h p t s f node) (sym e) record { from = src; returns = is; same = refl }
 by_statement h p t s f below node (Pick dst k) c wf at is proper obeys apart e =

@@ -25,7 +25,7 @@ use Rattle.th_ir.specs.Good.{picked_into, pick_register}
 use Rattle.th_ir.specs.Harness.{to, HarnessMethod, Launches, Handles, HandlesAt, NodeList, Parts, launch_nodes, call_entries, handler_nodes, row_nodes, harness_node, StandFrom, HasNodes, IsApartObject, IsEventSite, CallsHandler, DoesThis, AreHarness}
 use Rattle.th_ir.specs.Statements.{HasEntry, IsProper, IsOrdinary}
 use Rattle.th_ir.specs.WellFormed.{IsWellFormed}
-use Rattle.th_ir.proofs.Plain.{some_is, same_found, all_at, get_within}
+use Rattle.th_ir.proofs.Plain.{some_is, same_found, or_true, all_at, get_within}
 
 -- ---- what is asked of each statement
 
@@ -253,14 +253,10 @@ member h p m at [] (x ∷ xs) all e = absurd all
 member h p m at (k ∷ ks) [] all e = absurd all
 member h p m at (k ∷ ks) (x ∷ xs) all e = one_of h p m at (x.0 == m) x xs k ks refl e all (λ more. member h p m (at + 1) ks xs all.2 more)
 
-any_true : (b : Bool) → (b || true) ≡ true
-any_true true = refl
-any_true false = refl
-
 pub listed_harness : (k : ℕ) (ms : List MethodId) (m : MethodId) → slice_get ms k ≡ Some m → list_any (λ x. x.0 == m.0) ms ≡ true
 listed_harness k [] m e = absurd cc
 listed_harness zero (x ∷ ms) m e = let same : x.0 ≡ m.0 = ap (λ (y : MethodId). y.0) (some_is x m e) in rw (eq-eqb x.0 m.0 same) refl
-listed_harness (suc k) (x ∷ ms) m e = rw (listed_harness k ms m e) (any_true (x.0 == m.0))
+listed_harness (suc k) (x ∷ ms) m e = rw (listed_harness k ms m e) (or_true (x.0 == m.0))
 
 -- ---- other methods
 

@@ -5,6 +5,7 @@ pub mod Changes
 pub mod Covering
 pub mod HarnessKinds
 pub mod Heaps
+pub mod Listings
 pub mod ListedFacts
 pub mod Nests
 pub mod New

@@ -1,6 +1,6 @@
 -- Plain facts on options, tests and lists that the proofs here share.
 use Rattle.std.proofs.Common.{◌≡◌, ℕ, zero, suc, ◌==◌, ◌<◌, Bool, true, false, List, [], ◌∷◌, ◌++◌, length, Option, None, Some, slice_get, slice_set, refl, sym, ap, subst, arith, ◌∙◌, if◌then◌else◌}
-use Rattle.std.specs.Prelude.{replicate, ◌||◌}
+use Rattle.std.specs.Prelude.{replicate, ◌&&◌, ◌||◌}
 use Rattle.std.specs.List.{AllByRecursion}
 use Rattle.std.proofs.lemmas.Bool.{eqb-true, eq-eqb, ne_eqb}
 use Rattle.th_base.specs.IdSet.{has}
@@ -18,7 +18,20 @@ not_both b one other = cc
 pub same_found : {A : Type 0} (o : Option A) (x y : A) → o ≡ Some x → o ≡ Some y → x ≡ y
 same_found o x y one other = some_is x y (sym one ∙ other)
 
-or_true : (b : Bool) → (b || true) ≡ true
+pub same_test : (b c : Bool) → (b ≡ true → c ≡ true) → (c ≡ true → b ≡ true) → b ≡ c
+same_test true c there back = sym (there refl)
+same_test false true there back = back refl
+same_test false false there back = refl
+
+pub and_parts : (b c : Bool) → (b && c) ≡ true → (b ≡ true) × (c ≡ true)
+and_parts true c e = (refl, e)
+and_parts false c e = absurd cc
+
+pub and_both : (b c : Bool) → b ≡ true → c ≡ true → (b && c) ≡ true
+and_both true c one two = two
+and_both false c one two = absurd cc
+
+pub or_true : (b : Bool) → (b || true) ≡ true
 or_true true = refl
 or_true false = refl
 

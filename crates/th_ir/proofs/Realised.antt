@@ -16,7 +16,7 @@ use Rattle.th_ir.specs.WellFormed.{AreNumbered, IsWellFormed}
 use Rattle.th_ir.specs.Good.{IsGood}
 use Rattle.th_ir.specs.Covered.{HasSite, Covers}
 use Rattle.th_ir.specs.Graph.{IsOfSite, Realises, HasEdge}
-use Rattle.th_ir.proofs.Plain.{some_is, same_found, not_both}
+use Rattle.th_ir.proofs.Plain.{some_is, same_found, and_parts}
 use Rattle.th_ir.proofs.Covering.{good_covered}
 
 -- ---- static fields are of classes of files
@@ -35,10 +35,6 @@ owner_from c (k ∷ ks) f d e = elim (mapped_owner c k.fields (owned_fields_from
 
 of_file : (h : List ClassInfo) (f : ℕ) (d : ℕ × FieldInfo) → AreNumbered h → field_at h f ≡ Some d → BUILT_IN_COUNT ≤ d.0
 of_file h f d numbered e = owner_from BUILT_IN_COUNT numbered.files f d (ap (λ (x : List ClassInfo). slice_get (owned_fields x) f) (sym numbered.built_in) ∙ e)
-
-and_parts : (b c : Bool) → (b && c) ≡ true → (b ≡ true) × (c ≡ true)
-and_parts true c e = (refl, e)
-and_parts false c e = absurd cc
 
 static_by : (h : List ClassInfo) (f : ℕ) (o : Option (ℕ × FieldInfo)) → field_at h f ≡ o → AreNumbered h → option_map_or (λ (d : ℕ × FieldInfo). d.1.is_static && is_kept d.1.descriptor) o false ≡ true
     → option_map_or (λ (d : ℕ × FieldInfo). d.1.is_static && nat_le BUILT_IN_COUNT d.0) o false ≡ true

@@ -3,6 +3,9 @@ ghost use Rattle.std.specs.Prelude.{◌≡◌, ◌↔◌, ◌<◌, ◌^◌, ◌-
 ghost use Rattle.th_outside.specs.Store.{NamedFile, Lacks, Reads};
 ghost use Rattle.th_outside.specs.Faults.{faults_after_read, FailedAfter};
 
+use std::error::Error;
+use std::fmt;
+
 /// Why a read gave nothing.
 #[derive(Clone, Copy, Debug, PartialEq, Eq)]
 pub enum ReadError {
@@ -11,6 +14,17 @@ pub enum ReadError {
     /// The read failed, and the count of faults rose.
     Failed,
 }
+
+impl fmt::Display for ReadError {
+    fn fmt<W: fmt::Write>(&self, f: &mut fmt::Formatter<W>) -> fmt::Result {
+        f.write_str(match self {
+            ReadError::Missing => "no such file",
+            ReadError::Failed => "read failed",
+        })
+    }
+}
+
+impl Error for ReadError {}
 
 /// A store of files, by name. What it holds need not be told.
 pub trait Files {

@@ -20,3 +20,6 @@ pub use gate::{Gate, NoGate};
 pub use host::{HostFiles, HostSink};
 pub use memory::{MemFiles, MemSink};
 pub use sink::{Failed, Sink};
+
+#[cfg(test)]
+mod tests;

@@ -3,9 +3,20 @@ ghost use Rattle.std.specs.Prelude.{◌≡◌, ◌<◌, ◌^◌, ◌-◌, ◌≤
 ghost use Rattle.th_outside.specs.Held.{Held, held_after, HasRoom, KeepsEnd};
 ghost use Rattle.th_outside.specs.Faults.{faults_after_write};
 
+use std::error::Error;
+use std::fmt;
+
 /// A write that was not made.
 #[derive(Clone, Copy, Debug, PartialEq, Eq)]
 pub struct Failed;
+
+impl fmt::Display for Failed {
+    fn fmt<W: fmt::Write>(&self, f: &mut fmt::Formatter<W>) -> fmt::Result {
+        f.write_str("write failed")
+    }
+}
+
+impl Error for Failed {}
 
 /// A sink of bytes. What it holds need not be told.
 pub trait Sink {

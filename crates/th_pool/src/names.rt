@@ -42,7 +42,8 @@ pub fn is_field_name(name: &[u8]) -> bool
 pub fn is_class_name(name: &[u8]) -> bool
     ensures { result ≡ names.is_class_name name.now }
 {
-    name.split(|byte| *byte == b'/').all(|part| is_field_name(part))
+    name.split(|byte| *byte == b'/')
+        .all(|part| is_field_name(part))
 }
 
 /// Whether the bytes are the name of an instance initialisation method (Java specification 2.9).

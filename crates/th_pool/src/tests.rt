@@ -293,7 +293,7 @@ fn limits_of_descriptors(rt: HostRuntime) -> Result<(), Fail> {
     }
     for (count, good) in [(255, true), (256, false)] {
         let bytes = repeated(rt.alloc(), b'[', count, b"I")?;
-        let text = Text::from_vec(bytes);
+        let text = Text::from_vec(bytes)?;
         assert_eq!(rt; parse_field(&text).is_ok(), good);
     }
     Ok(())

@@ -9,3 +9,5 @@ pub mod Sound
 pub mod Ends
 pub mod Named
 pub mod Vanishing
+pub mod Stopping
+pub mod Indexed

@@ -22,6 +22,7 @@ use Rattle.th_pure.specs.Outcomes.{and_then, facts_before}
 use Rattle.th_pure.specs.Division.{judged, divided_all}
 use Rattle.th_pure.specs.Substitution.{Choice, solved_variable, passed, first_choice, choice_of, range_facts, low_fact, high_fact, all_made, taken_out, round_of, rounds_by, rounds, equations, solved}
 use Rattle.th_pure.specs.Bounds.{inequalities, inequalities_of, all_range_facts, bounded, variables}
+use Rattle.th_pure.specs.declared.elimination.TheConstants.{FACT_LIMIT}
 use Rattle.th_pure.specs.Elimination.{uppers, lowers, without, vanishing, combinations, has_fact, put_after, eliminated, eliminated_all}
 use Rattle.th_pure.specs.Refutation.{decided, refutation, is_refuted, refuted}
 use Rattle.th_pure.specs.Solutions.{AllHold, AllInRange, Solves, HaveNoSolution}
@@ -292,7 +293,7 @@ eliminated_keeps l s v fs h =
 
 all_keeps : (l : Laws) (s : ℕ → ℤ) (vs : List ℕ) (fs : List Form) → Every (Bounds s) fs → Keeps (Bounds s) (eliminated_all vs fs)
 all_keeps l s [] fs h = tt
-all_keeps l s (v ∷ vs) fs h = elim (cases_Bool (nat_le 200 (length fs))) [
+all_keeps l s (v ∷ vs) fs h = elim (cases_Bool (nat_le FACT_LIMIT (length fs))) [
   | inl is ↦ rw is tt
   | inr isnt ↦ rw isnt (keeps_then (Bounds s) (Bounds s) (eliminated v fs) (λ gs. eliminated_all vs gs) (eliminated_keeps l s v fs h) (λ gs k. all_keeps l s vs gs k))
 ]

@@ -1,5 +1,5 @@
 -- Variables eliminated from inequalities one by one.
-use Rattle.std.specs.Prelude.{◌≡◌, ◌⊎◌, ◌≤◌, ◌<ℤ◌, All, ℕ, ◌/◌, ◌==◌, nat_le, Bool, true, false, cond, ◌&&◌, ◌||◌, ℤ, pos, List, [], ◌∷◌, ◌++◌, length, map, filter, Option}
+use Rattle.std.specs.Prelude.{◌≡◌, ◌<ℤ◌, All, ℕ, ◌/◌, ◌==◌, nat_le, Bool, true, false, cond, ◌&&◌, ◌||◌, ℤ, pos, List, [], ◌∷◌, ◌++◌, length, map, filter, Option}
 use Rattle.std.specs.Int.RustNames.{unsigned_abs, int_lt}
 use Rattle.std.specs.Ordering.{int_eq}
 use Rattle.th_linear.specs.Forms.{Form, coef}
@@ -7,8 +7,9 @@ use Rattle.th_linear.specs.Divided.{gcd_of}
 use Rattle.th_linear.specs.Summed.{combined}
 use Rattle.th_linear.specs.declared.fact.Rel.{Rel}
 use Rattle.th_linear.specs.declared.fact.Rel.TheVariants.{Eq, Le, Ne}
+use Rattle.th_pure.specs.declared.elimination.TheConstants.{FACT_LIMIT}
 use Rattle.th_pure.specs.declared.facts.Outcome.{Outcome}
-use Rattle.th_pure.specs.declared.facts.Outcome.TheVariants.{Refuted, Undecided, Remaining}
+use Rattle.th_pure.specs.declared.facts.Outcome.TheVariants.{Undecided, Remaining}
 use Rattle.th_pure.specs.Outcomes.{and_then}
 use Rattle.th_pure.specs.Division.{divided_all}
 use Rattle.th_pure.specs.Substitution.{all_made}
@@ -24,16 +25,6 @@ IsLower v f = (f.rel ≡ Le) × (coef v f.coefs <ℤ pos 0)
 -- each fact is an inequality
 abbrev pub AreInequalities : List Form → Type 0
 AreInequalities fs = All (λ f. f.rel ≡ Le) fs
-
--- the facts that are left are inequalities
-abbrev pub AreLeft : Outcome → Type 0
-AreLeft Refuted = Unit {0}
-AreLeft Undecided = Unit {0}
-AreLeft (Remaining fs) = AreInequalities fs
-
--- the lists are equal, or both have 200 facts or more
-abbrev pub Agree : List Form → List Form → Type 0
-Agree fs gs = (fs ≡ gs) ⊎ ((200 ≤ length fs) × (200 ≤ length gs))
 
 -- the facts that bound a variable from above
 abbrev pub uppers : ℕ → List Form → List Form
@@ -88,10 +79,14 @@ abbrev pub has_fact : Form → List Form → Bool
 has_fact f [] = false
 has_fact f (g ∷ gs) = same_fact f g || has_fact f gs
 
+-- a fact put last, unless it stands in the list
+abbrev pub with_fact : Form → List Form → List Form
+with_fact f kept = cond (has_fact f kept) kept (kept ++ f ∷ [])
+
 -- facts put after others, but for repeats
 abbrev pub put_after : List Form → List Form → List Form
 put_after kept [] = kept
-put_after kept (f ∷ fs) = put_after (cond (has_fact f kept) kept (kept ++ f ∷ [])) fs
+put_after kept (f ∷ fs) = put_after (with_fact f kept) fs
 
 -- the facts without repeats: of equal ones the first
 abbrev pub without_repeats : List Form → List Form
@@ -103,11 +98,7 @@ eliminated v fs =
     and_then (all_made (combinations v (uppers v fs) (lowers v fs))) (λ made.
     and_then (divided_all made) (λ new. Remaining (without_repeats (without v fs ++ new))))
 
--- the variables eliminated in turn; no answer where the facts number 200 or more before one, or none is left
+-- the variables eliminated in turn; no answer where the facts reach their limit before one, or none is left
 abbrev pub eliminated_all : List ℕ → List Form → Outcome
 eliminated_all [] fs = Undecided
-eliminated_all (v ∷ vs) fs = cond (nat_le 200 (length fs)) Undecided (and_then (eliminated v fs) (λ gs. eliminated_all vs gs))
-
--- both outcomes give the same answer, whichever variables are eliminated from then on
-abbrev pub AnswerAlike : Outcome → Outcome → Type 0
-AnswerAlike o p = (vs : List ℕ) → and_then o (λ gs. eliminated_all vs gs) ≡ and_then p (λ gs. eliminated_all vs gs)
+eliminated_all (v ∷ vs) fs = cond (nat_le FACT_LIMIT (length fs)) Undecided (and_then (eliminated v fs) (λ gs. eliminated_all vs gs))

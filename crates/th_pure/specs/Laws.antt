@@ -1,5 +1,5 @@
 -- What the definitions of the steps mean: the statements of the laws.
-use Rattle.std.specs.Prelude.{◌≡◌, ◌↔◌, ◌⊎◌, ◌≤◌, ◌+◌, ℕ, ℤ, pos, List, [], ◌∷◌, Some, None}
+use Rattle.std.specs.Prelude.{◌≡◌, ◌↔◌, ◌⊎◌, ◌≤◌, ◌+◌, ℕ, ℤ, pos, List, [], ◌∷◌, Some, None, All, IsTrue}
 use Rattle.th_linear.specs.Forms.{Form, coef}
 use Rattle.th_linear.specs.Laws.{IsFact}
 use Rattle.th_pure.specs.declared.range.Range.{Range}
@@ -7,6 +7,12 @@ use Rattle.th_pure.specs.declared.facts.Outcome.TheVariants.{Remaining}
 use Rattle.th_pure.specs.Substitution.{choice_of, solved}
 use Rattle.th_pure.specs.Bounds.{variables}
 use Rattle.th_pure.specs.Elimination.{IsUpper, IsLower, vanishing}
+use Rattle.th_pure.specs.Refutation.{refuted}
+use Rattle.th_pure.specs.Solutions.{HaveNoSolution}
+
+-- where the refuter says yes, no integers in the ranges satisfy the facts
+abbrev pub RefutedHaveNoSolution : Type 0
+RefutedHaveNoSolution = (facts : List Form) (ranges : List Range) → All IsFact facts → IsTrue (refuted facts ranges) → HaveNoSolution facts ranges
 
 -- after the rounds no equation has a coefficient 1 or -1
 abbrev pub RoundsEnd : Type 0

@@ -3,6 +3,8 @@ pub mod Division
 pub mod Substitution
 pub mod Bounds
 pub mod Elimination
+pub mod Early
+pub mod Distinct
 pub mod Refutation
 pub mod Solutions
 pub mod Laws

@@ -15,11 +15,11 @@ use crate::facts::FactList;
 use std::alloc::{AllocError, Global};
 use th_linear::{Lin, Rel};
 
-/// The inequalities of the facts: an equation is two, an inequation (`Ne`) none.
-pub fn inequalities(alloc: Global, facts: FactList) -> Result<FactList, AllocError>
+// The inequalities of the facts: an equation is two, an inequation (`Ne`) none.
+pub(crate) fn inequalities(alloc: Global, facts: FactList) -> Result<FactList, AllocError>
     ensures { IfOk result (λ list. list ≡ inequalities facts) }
 {
-    let mut list = FactList::new(alloc);
+    let mut list = FactList::with_capacity(alloc, facts.len())?;
     for fact in facts.into_vec() {
         match fact.rel {
             Rel::Eq => push_equation(alloc, &mut list, fact)?,
@@ -30,7 +30,7 @@ pub fn inequalities(alloc: Global, facts: FactList) -> Result<FactList, AllocErr
     Ok(list)
 }
 
-/// Adds an equation as two inequalities: its sum is at most 0, and at least 0.
+// Adds an equation as two inequalities: its sum is at most 0, and at least 0.
 fn push_equation(alloc: Global, list: &mut FactList, fact: Lin) -> Result<(), AllocError>
     ensures { OnOk result (list.new ≡ list.old ++ inequalities_of Rel.Eq fact) }
 {
@@ -40,7 +40,7 @@ fn push_equation(alloc: Global, list: &mut FactList, fact: Lin) -> Result<(), Al
     Ok(())
 }
 
-/// The sum of the fact is at most 0.
+// The sum of the fact is at most 0.
 fn at_most(fact: Lin) -> Lin
     ensures { result ≡ at_most fact }
 {
@@ -56,7 +56,7 @@ fn at_most(fact: Lin) -> Lin
     }
 }
 
-/// The sum of the fact is at least 0.
+// The sum of the fact is at least 0.
 fn at_least(alloc: Global, fact: &Lin) -> Result<Lin, AllocError>
     ensures { IfOk result (λ f. f ≡ at_least fact.now) }
 {
@@ -67,19 +67,19 @@ fn at_least(alloc: Global, fact: &Lin) -> Result<Lin, AllocError>
     })
 }
 
-/// The terms with their signs turned.
+// The terms with their signs turned.
 fn turned_terms(alloc: Global, terms: &[(u32, i128)]) -> Result<Vec<(u32, i128)>, AllocError>
     requires { AreTerms 0 terms.now }
     ensures { IfOk result (λ v. v.items ≡ scaled (negsuc 0) terms.now) }
 {
-    let mut list = Vec::new(alloc);
+    let mut list = Vec::with_capacity(alloc, terms.len())?;
     for term in terms {
         list.push((term.0, turned(term.1)))?;
     }
     Ok(list)
 }
 
-/// The number with its sign turned.
+// The number with its sign turned.
 fn turned(z: i128) -> i128
     requires { Small z }
     ensures value { result ≡ neg_ℤ z }
@@ -88,8 +88,8 @@ fn turned(z: i128) -> i128
     -z
 }
 
-/// The variables that stand in the facts, in ascending order.
-pub fn variables(alloc: Global, facts: &[Lin]) -> Result<Vec<u32>, AllocError>
+// The variables that stand in the facts, in ascending order.
+pub(crate) fn variables(alloc: Global, facts: &[Lin]) -> Result<Vec<u32>, AllocError>
     ensures { IfOk result (λ vs. vs.items ≡ variables facts.now) }
 {
     let mut list = Vec::new(alloc);
@@ -99,7 +99,7 @@ pub fn variables(alloc: Global, facts: &[Lin]) -> Result<Vec<u32>, AllocError>
     Ok(list)
 }
 
-/// Puts the variables of terms into ascending ones.
+// Puts the variables of terms into ascending ones.
 fn put_terms(list: &mut Vec<u32>, terms: &[(u32, i128)]) -> Result<(), AllocError>
     ensures { OnOk result (list.new.items ≡ with_terms list.old.items terms.now) }
 {
@@ -109,7 +109,7 @@ fn put_terms(list: &mut Vec<u32>, terms: &[(u32, i128)]) -> Result<(), AllocErro
     Ok(())
 }
 
-/// Puts a variable into ascending ones, once.
+// Puts a variable into ascending ones, once.
 fn put_variable(list: &mut Vec<u32>, variable: u32) -> Result<(), AllocError>
     ensures { OnOk result (list.new.items ≡ with_variable variable list.old.items) }
 {
@@ -121,7 +121,7 @@ fn put_variable(list: &mut Vec<u32>, variable: u32) -> Result<(), AllocError>
     Ok(())
 }
 
-/// Where a variable stands in a list, or is to stand: the first place that isn't below it.
+// Where a variable stands in a list, or is to stand: the first place that isn't below it.
 fn place_of(list: &[u32], variable: u32) -> usize
     ensures within { result ≤ length list.now }
     ensures here { result < length list.now → slice_index list.now result ≡ variable
@@ -137,8 +137,8 @@ fn place_of(list: &[u32], variable: u32) -> usize
     list.len()
 }
 
-/// Adds the ranges of the variables as inequalities.
-pub fn push_ranges(
+// Adds the ranges of the variables as inequalities.
+pub(crate) fn push_ranges(
     alloc: Global,
     facts: &mut FactList,
     ranges: &[Range],
@@ -152,8 +152,8 @@ pub fn push_ranges(
     Ok(())
 }
 
-/// Adds the range of a variable as inequalities, low before high.
-pub fn push_range(
+// Adds the range of a variable as inequalities, low before high.
+pub(crate) fn push_range(
     alloc: Global,
     facts: &mut FactList,
     ranges: &[Range],
@@ -171,28 +171,28 @@ pub fn push_range(
     Ok(())
 }
 
-/// The variable is at least the range's low end.
+// The variable is at least the range's low end.
 fn low_bound(alloc: Global, range: &Range) -> Result<Lin, AllocError>
     ensures { IfOk result (λ f. f ≡ low_fact range.now) }
 {
     bound(alloc, range.variable, -1, range.low)
 }
 
-/// The variable is at most the range's high end.
+// The variable is at most the range's high end.
 fn high_bound(alloc: Global, range: &Range) -> Result<Lin, AllocError>
     ensures { IfOk result (λ f. f ≡ high_fact range.now) }
 {
     bound(alloc, range.variable, 1, -range.high)
 }
 
-/// An inequality of one variable with coefficient 1 or -1.
+// An inequality of one variable with coefficient 1 or -1.
 fn bound(alloc: Global, variable: u32, coefficient: i128, constant: i128) -> Result<Lin, AllocError>
     requires unit { unsigned_abs coefficient ≡ 1 }
-    requires small { unsigned_abs constant < 2 ^ 62 }
+    requires small { Small constant }
     ensures { IfOk result
         (λ f. f ≡ record { coefs = (variable, coefficient) ∷ []; constant = constant; rel = Rel.Le }) }
 {
-    let mut coefs = Vec::new(alloc);
+    let mut coefs = Vec::with_capacity(alloc, 1)?;
     coefs.push((variable, coefficient))?;
     Ok(Lin {
         coefs,

@@ -6,12 +6,12 @@ use crate::facts::{FactList, Outcome};
 use std::alloc::{AllocError, Global};
 use th_linear::{NormalForm, normal};
 
-/// Each fact divided by the greatest common divisor of its coefficients. A false one refutes the
-/// facts, and a true one is dropped.
-pub fn divide_all(alloc: Global, facts: FactList) -> Result<Outcome, AllocError>
+// Each fact divided by the greatest common divisor of its coefficients. A false one refutes the
+// facts, and a true one is dropped.
+pub(crate) fn divide_all(alloc: Global, facts: FactList) -> Result<Outcome, AllocError>
     ensures { IfOk result (λ outcome. outcome ≡ divided_all facts) }
 {
-    let mut left = FactList::new(alloc);
+    let mut left = FactList::with_capacity(alloc, facts.len())?;
     for fact in facts.into_vec() {
         match normal(fact) {
             NormalForm::True => {}

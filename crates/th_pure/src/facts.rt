@@ -1,14 +1,14 @@
 // Lists of facts, and what a step makes of them.
-ghost use Rattle.std.specs.Prelude.{◌≡◌, [], ◌∷◌, ◌++◌, ◌<◌, length, OnOk, slice_index_or};
+ghost use Rattle.std.specs.Prelude.{◌≡◌, [], ◌∷◌, ◌++◌, ◌<◌, length, IfOk, OnOk, slice_index_or};
 ghost use Rattle.std.specs.List.{remove};
 
 use std::alloc::{AllocError, Global};
 use std::marker::Model;
 use th_linear::Lin;
 
-/// Facts in order, which contracts see as a list.
+// Facts in order, which contracts see as a list.
 #[derive(Debug, Drop)]
-pub struct FactList {
+pub(crate) struct FactList {
     items: Vec<Lin>,
 }
 
@@ -21,20 +21,20 @@ impl Model for FactList {
     ghost view = { λ f. f.items.items };
 }
 
-/// What a step makes of a list of facts.
+// What a step makes of a list of facts.
 #[derive(Debug, Drop)]
-pub enum Outcome {
-    /// No integers satisfy the facts.
+pub(crate) enum Outcome {
+    // No integers satisfy the facts.
     Refuted,
-    /// The facts are given up: they are too many, or a magnitude reaches 2^62.
+    // The facts are given up: they are too many, or a magnitude reaches 2^62.
     Undecided,
-    /// The facts that are left.
+    // The facts that are left.
     Remaining(FactList),
 }
 
 impl FactList {
-    /// No facts. Takes no memory.
-    pub fn new(alloc: Global) -> FactList
+    // No facts. Takes no memory.
+    pub(crate) fn new(alloc: Global) -> FactList
         ensures { result ≡ [] }
     {
         FactList {
@@ -42,38 +42,46 @@ impl FactList {
         }
     }
 
-    /// The facts, borrowed.
-    pub fn as_slice(&self) -> &[Lin]
+    // No facts, with room for so many.
+    pub(crate) fn with_capacity(alloc: Global, capacity: usize) -> Result<FactList, AllocError>
+        ensures { IfOk result (λ list. list ≡ []) }
+    {
+        let items = Vec::with_capacity(alloc, capacity)?;
+        Ok(FactList { items })
+    }
+
+    // The facts, borrowed.
+    pub(crate) fn as_slice(&self) -> &[Lin]
         ensures { result.now ≡ self.now }
     {
         self.items.as_slice()
     }
 
-    /// How many facts there are.
-    pub fn len(&self) -> usize
+    // How many facts there are.
+    pub(crate) fn len(&self) -> usize
         ensures { result ≡ length self.now }
     {
         self.items.len()
     }
 
-    /// The facts as a vector. Takes no memory.
-    pub fn into_vec(self) -> Vec<Lin>
+    // The facts as a vector. Takes no memory.
+    pub(crate) fn into_vec(self) -> Vec<Lin>
         ensures { result.items ≡ self }
     {
         let FactList { items } = self;
         items
     }
 
-    /// Adds a fact at the end.
-    pub fn push(&mut self, fact: Lin) -> Result<(), AllocError>
+    // Adds a fact at the end.
+    pub(crate) fn push(&mut self, fact: Lin) -> Result<(), AllocError>
         ensures { OnOk result (self.new ≡ self.old ++ fact ∷ []) }
     {
         self.items.push(fact)?;
         Ok(())
     }
 
-    /// Takes the fact at a place away.
-    pub fn remove(&mut self, at: usize) -> Lin
+    // Takes the fact at a place away.
+    pub(crate) fn remove(&mut self, at: usize) -> Lin
         requires { at < length self.old }
         ensures fact { result ≡ slice_index_or self.old at result }
         ensures rest { self.new ≡ remove self.old at }

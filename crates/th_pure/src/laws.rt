@@ -1,7 +1,15 @@
 //! What the definitions of the steps mean.
+ghost use Rattle.th_pure.specs.Laws.{RefutedHaveNoSolution};
 ghost use Rattle.th_pure.specs.Laws.{RoundsEnd, VariablesStand, VariableVanishes};
 
-use th_linear::laws::one_sum;
+use th_linear::laws::{one_sum, steps_keep};
+
+/// Where the definition of the refuter says yes, no integers in the ranges satisfy the facts.
+pub fn refuted_have_no_solution()
+    ensures { RefutedHaveNoSolution }
+{
+    steps_keep();
+}
 
 /// Rounds of substitution go on until no equation has a coefficient 1 or -1. The variables that are
 /// eliminated ascend, and are exactly those that stand in the facts. Each vanishes where two facts

@@ -11,10 +11,12 @@
 #![tactic(auto)]
 
 mod bounds;
+mod distinct;
 mod division;
 mod elimination;
 mod facts;
 pub mod laws;
+mod products;
 mod range;
 mod refutation;
 mod substitution;

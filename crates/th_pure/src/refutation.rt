@@ -11,10 +11,10 @@ use crate::bounds::{inequalities, push_ranges, variables};
 use crate::division::divide_all;
 use crate::elimination::eliminate_all;
 use crate::facts::{FactList, Outcome};
+use crate::laws::refuted_have_no_solution;
 use crate::substitution::solve;
 use std::alloc::{AllocError, Global};
 use th_linear::Lin;
-use th_linear::laws::steps_keep;
 
 /// Whether the facts are refuted: yes only where no integers in their ranges satisfy them all. No
 /// says nothing. Of several ranges of a variable the first counts; a variable without one is free.
@@ -22,12 +22,12 @@ pub fn refutes(alloc: Global, facts: &[Lin], ranges: &[Range]) -> Result<bool, A
     ensures value { IfOk result (λ answer. answer ≡ refuted facts.now ranges.now) }
     ensures sound { IfOk result (λ answer. IsTrue answer → HaveNoSolution facts.now ranges.now) }
 {
-    steps_keep();
+    refuted_have_no_solution();
     let outcome = outcome_of(alloc, facts, ranges)?;
     Ok(is_refuted(outcome))
 }
 
-/// Whether the outcome is a refutation.
+// Whether the outcome is a refutation.
 fn is_refuted(outcome: Outcome) -> bool
     ensures { result ≡ is_refuted outcome }
 {
@@ -38,7 +38,7 @@ fn is_refuted(outcome: Outcome) -> bool
     }
 }
 
-/// What the steps make of the facts.
+// What the steps make of the facts.
 fn outcome_of(alloc: Global, facts: &[Lin], ranges: &[Range]) -> Result<Outcome, AllocError>
     ensures value { IfOk result (λ outcome. outcome ≡ refutation facts.now ranges.now) }
     ensures facts { IfOk result (λ _. All IsFact facts.now) }
@@ -51,7 +51,7 @@ fn outcome_of(alloc: Global, facts: &[Lin], ranges: &[Range]) -> Result<Outcome,
     }
 }
 
-/// The facts solved for variables, and decided by elimination.
+// The facts solved for variables, and decided by elimination.
 fn solve_and_decide(alloc: Global, facts: FactList, ranges: &[Range]) -> Result<Outcome, AllocError>
     ensures { IfOk result
         (λ outcome. outcome ≡ and_then (solved ranges.now facts) (λ gs. decided ranges.now gs)) }
@@ -62,7 +62,7 @@ fn solve_and_decide(alloc: Global, facts: FactList, ranges: &[Range]) -> Result<
     }
 }
 
-/// The facts as inequalities with the ranges of their variables, and these eliminated.
+// The facts as inequalities with the ranges of their variables, and these eliminated.
 fn decide(alloc: Global, facts: FactList, ranges: &[Range]) -> Result<Outcome, AllocError>
     ensures { IfOk result (λ outcome. outcome ≡ decided ranges.now facts) }
 {
@@ -72,12 +72,12 @@ fn decide(alloc: Global, facts: FactList, ranges: &[Range]) -> Result<Outcome, A
     eliminate_all(alloc, bounds, names.as_slice())
 }
 
-/// A copy of each fact.
+// A copy of each fact.
 fn copy_all(alloc: Global, facts: &[Lin]) -> Result<FactList, AllocError>
     ensures equal { IfOk result (λ list. list ≡ facts.now) }
     ensures facts { IfOk result (λ _. All IsFact facts.now) }
 {
-    let mut list = FactList::new(alloc);
+    let mut list = FactList::with_capacity(alloc, facts.len())?;
     for fact in facts {
         list.push(fact.copy(alloc)?)?;
     }

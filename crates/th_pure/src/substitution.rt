@@ -16,9 +16,9 @@ use std::alloc::{AllocError, Global};
 use th_linear::laws::steps_keep;
 use th_linear::{Lin, Rel, substitute};
 
-/// Takes variables out while an equation has one with coefficient 1 or -1: the first such equation,
-/// and its least such variable.
-pub fn solve(alloc: Global, facts: FactList, ranges: &[Range]) -> Result<Outcome, AllocError>
+// Takes variables out while an equation has one with coefficient 1 or -1: the first such equation,
+// and its least such variable.
+pub(crate) fn solve(alloc: Global, facts: FactList, ranges: &[Range]) -> Result<Outcome, AllocError>
     ensures { IfOk result (λ outcome. outcome ≡ solved ranges.now facts) }
 {
     let mut rounds = count_equations(facts.as_slice());
@@ -39,7 +39,7 @@ pub fn solve(alloc: Global, facts: FactList, ranges: &[Range]) -> Result<Outcome
     Ok(Outcome::Remaining(left))
 }
 
-/// How many facts are equations.
+// How many facts are equations.
 fn count_equations(facts: &[Lin]) -> usize
     ensures { result ≡ equations facts.now }
 {
@@ -54,14 +54,14 @@ fn count_equations(facts: &[Lin]) -> usize
     count
 }
 
-/// A variable, and the place of an equation that is solved for it.
+// A variable, and the place of an equation that is solved for it.
 #[derive(Clone, Copy)]
 struct Place {
     at: usize,
     variable: u32,
 }
 
-/// The first equation with a coefficient 1 or -1, and its least such variable.
+// The first equation with a coefficient 1 or -1, and its least such variable.
 fn choose(facts: &[Lin]) -> Option<Place>
     ensures none { IfNone result (choice_of facts.now ≡ None) }
     ensures within { IfSome result (λ p. p.at < length facts.now) }
@@ -75,10 +75,11 @@ fn choose(facts: &[Lin]) -> Option<Place>
             return Some(Place { at, variable });
         }
     }
+    // No equation can be solved so.
     None
 }
 
-/// The variable for which a fact is solved.
+// The variable for which a fact is solved.
 fn variable_of(fact: &Lin) -> Option<u32>
     ensures value { result ≡ solved_variable fact.now.rel fact.now.coefs }
     ensures equation { IfSome result (λ _. fact.now.rel ≡ Rel.Eq) }
@@ -91,7 +92,7 @@ fn variable_of(fact: &Lin) -> Option<u32>
     }
 }
 
-/// The first variable with coefficient 1 or -1.
+// The first variable with coefficient 1 or -1.
 fn first_unit(terms: &[(u32, i128)]) -> Option<u32>
     ensures { result ≡ unit_variable terms.now }
 {
@@ -100,11 +101,12 @@ fn first_unit(terms: &[(u32, i128)]) -> Option<u32>
             return Some(term.0);
         }
     }
+    // No coefficient is 1 or -1.
     None
 }
 
-/// The facts with the variable taken out by an equation that has it with coefficient 1 or -1, and
-/// divided again.
+// The facts with the variable taken out by an equation that has it with coefficient 1 or -1, and
+// divided again.
 fn take_out(alloc: Global, facts: FactList, variable: u32, by: &Lin) -> Result<Outcome, AllocError>
     requires by { by.now.rel ≡ Rel.Eq }
     requires unit { unsigned_abs (coef variable by.now.coefs) ≡ 1 }
@@ -116,7 +118,7 @@ fn take_out(alloc: Global, facts: FactList, variable: u32, by: &Lin) -> Result<O
     }
 }
 
-/// The facts with the variable taken out; undecided where a magnitude of one reaches 2^62.
+// The facts with the variable taken out; undecided where a magnitude of one reaches 2^62.
 fn substitute_all(
     alloc: Global,
     facts: FactList,
@@ -127,7 +129,7 @@ fn substitute_all(
     requires unit { unsigned_abs (coef variable by.now.coefs) ≡ 1 }
     ensures { IfOk result (λ outcome. outcome ≡ taken_out by.now variable facts) }
 {
-    let mut left = FactList::new(alloc);
+    let mut left = FactList::with_capacity(alloc, facts.len())?;
     for fact in facts.into_vec() {
         match substitute_in(alloc, fact, variable, by)? {
             Some(without) => left.push(without)?,
@@ -137,7 +139,7 @@ fn substitute_all(
     Ok(Outcome::Remaining(left))
 }
 
-/// The fact with the variable taken out; a fact without the variable stays as it is.
+// The fact with the variable taken out; a fact without the variable stays as it is.
 fn substitute_in(
     alloc: Global,
     fact: Lin,
@@ -150,6 +152,7 @@ fn substitute_in(
 {
     if fact.coefficient(variable) == 0 {
         steps_keep();
+        // For the proof alone: the forms of both facts.
         let _terms = &fact.coefs;
         let _by_terms = &by.coefs;
         return Ok(Some(fact));

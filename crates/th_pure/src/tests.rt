@@ -5,10 +5,10 @@ use std::process::Abort;
 use std::test::Fail;
 use th_linear::{Lin, Rel};
 
-/// A fact: its terms, its constant, its relation.
+// A fact: its terms, its constant, its relation.
 type Row<'a> = (&'a [(u32, i128)], i128, Rel);
 
-/// A variable with its least and greatest integer.
+// A variable with its least and greatest integer.
 type Bounds = (u32, i128, i128);
 
 const EQ: Rel = Rel::Eq;
@@ -25,7 +25,7 @@ const WRAP: i128 = 4294967296;
 
 const HUGE: i128 = 1 << 61;
 
-/// The range of an `int`.
+// The range of an `int`.
 fn int(variable: u32) -> Bounds {
     (variable, LOW, HIGH)
 }

@@ -1,9 +1,12 @@
 // Values that are copied and compared, and the store of the host.
 use std::alloc::{AllocError, Global};
 use std::test::Fail;
-use th_base::{ArithOp, Relation, Same, Seq, Text, TryCopy};
+use th_base::{ArithOp, ClassId, FieldId, MethodId, Relation, Same, Seq, Stack, Text, TryCopy};
 use th_outside::{Files, HostFiles, ReadError};
-use th_syntax::{ClassFile, Code, Constant, Instr, Member, MemberRef, Primitive, Refusal, StackOp};
+use th_syntax::{
+    ClassFile, Code, Constant, Frame, InitStage, Instr, LaunchStage, Launched, Mark, Member,
+    MemberRef, Object, Primitive, Refusal, Slot, StackOp, State, Value,
+};
 
 fn text(alloc: Global, bytes: &[u8]) -> Result<Text, AllocError> {
     Text::from_slice(alloc, bytes)
@@ -99,6 +102,70 @@ fn refusals_are_copied_and_compared(rt: HostRuntime) -> Result<(), Fail> {
     assert!(rt; refusal.same(&copy));
     copy.offset = 8;
     assert!(rt; !refusal.same(&copy));
+    Ok(())
+}
+
+// A state with a frame, an object and a mark of each kind.
+fn one_state(alloc: Global) -> Result<State, AllocError> {
+    let mut fields = Seq::new(alloc);
+    fields.push((FieldId(2), Value::Long(-1)))?;
+    let mut elements = Seq::new(alloc);
+    elements.push(Value::Address(0))?;
+    let mut heap = Seq::new(alloc);
+    heap.push(Object::Instance {
+        class: ClassId(11),
+        fields,
+    })?;
+    heap.push(Object::Array {
+        descriptor: text(alloc, b"[LAct;")?,
+        elements,
+    })?;
+    let mut locals = Seq::new(alloc);
+    locals.push(Slot::Holds(Value::Null))?;
+    let mut stack = Stack::new(alloc);
+    stack.push(Slot::Holds(Value::Long(5)))?;
+    stack.push(Slot::SecondHalf)?;
+    let mut frames = Stack::new(alloc);
+    frames.push(Frame::Launch {
+        class: ClassId(11),
+        stage: LaunchStage::EndLaunch(0),
+    })?;
+    frames.push(Frame::Init {
+        class: ClassId(11),
+        stage: InitStage::EndInit,
+    })?;
+    frames.push(Frame::Code {
+        method: MethodId(17),
+        offset: 4,
+        locals,
+        stack,
+    })?;
+    let mut statics = Seq::new(alloc);
+    statics.push(Value::Int(3))?;
+    let mut marks = Seq::new(alloc);
+    marks.push(Mark::InProgress)?;
+    let mut launched = Seq::new(alloc);
+    launched.push(Launched {
+        object: 0,
+        stage: 7,
+    })?;
+    Ok(State {
+        heap,
+        statics,
+        marks,
+        frames,
+        launched,
+        ended: false,
+    })
+}
+
+#[test]
+fn states_are_copied_and_compared(rt: HostRuntime) -> Result<(), Fail> {
+    let state = one_state(rt.alloc())?;
+    let mut copy = state.try_copy(rt.alloc())?;
+    assert!(rt; state.same(&copy));
+    copy.ended = true;
+    assert!(rt; !state.same(&copy));
     Ok(())
 }
 

@@ -6,6 +6,7 @@ use Rattle.std.proofs.lemmas.Bool.{ltb-true, ltb-false, eqb-true, eq-eqb}
 use Rattle.std.proofs.lemmas.List.Elements.{All-from_recursion, All-contains}
 use Rattle.th_syntax.specs.declared.refusal.Flaw.{Flaw}
 use Rattle.th_syntax.specs.Flaws.{NotBehind, IsFirst, Ascend, is_before, first_from, first_of}
+use Rattle.th_syntax.proofs.Inverting.{both, some_is}
 
 -- ---- the order of flaws
 
@@ -33,10 +34,6 @@ same_place a b (inr same) (inr so) = flaws_are a b same.0 (let x : a.number ≤ 
 or_cases : (a b : Bool) → (a || b) ≡ true → (a ≡ true) ⊎ (b ≡ true)
 or_cases true b e = inl refl
 or_cases false b e = inr e
-
-both : (a b : Bool) → (a && b) ≡ true → (a ≡ true) × (b ≡ true)
-both true b e = (refl, e)
-both false b e = absurd cc
 
 neither : (a b : Bool) → (a || b) ≡ false → (a ≡ false) × (b ≡ false)
 neither true b e = absurd cc
@@ -82,9 +79,6 @@ first_from_is : (flaw : Flaw) (flaws : List Flaw) → IsFirst (flaw ∷ flaws) (
 first_from_is flaw [] = record { found = (0, omega arith, refl); least = (not_behind_itself flaw, tt) }
 first_from_is flaw (other ∷ others) =
     one_more (is_before other flaw) flaw other others (first_from flaw (other ∷ others)) refl (first_from_is (cond (is_before other flaw) other flaw) others)
-
-some_is : (x y : Flaw) → (let o : Option Flaw = Some x in o) ≡ Some y → x ≡ y
-some_is x y e = cc
 
 pub first_none : (flaws : List Flaw) → first_of flaws ≡ None → flaws ≡ []
 first_none [] e = refl

@@ -1,5 +1,5 @@
 -- Where the results of options and of changed lists come from.
-use Rattle.std.proofs.Common.{◌≡◌, ℕ, zero, suc, ◌⊎◌, inl, inr, Bool, true, false, List, [], ◌∷◌, ◌++◌, Option, None, Some, slice_get, slice_set, refl, ap, subst}
+use Rattle.std.proofs.Common.{◌≡◌, ℕ, zero, suc, ◌⊎◌, inl, inr, Bool, true, false, ◌&&◌, List, [], ◌∷◌, ◌++◌, Option, None, Some, slice_get, slice_set, refl, ap, subst}
 use Rattle.std.specs.List.{AllByRecursion}
 use Rattle.std.specs.Option.{option_and_then, option_map, option_map_or}
 
@@ -17,6 +17,11 @@ map_or_true f (Some x) e = (x, refl, e)
 
 pub some_is : {A : Type 0} (x y : A) → (let o : Option A = Some x in o) ≡ Some y → x ≡ y
 some_is x y e = cc
+
+-- two tests that hold
+pub both : (a b : Bool) → (a && b) ≡ true → (a ≡ true) × (b ≡ true)
+both true b e = (refl, e)
+both false b e = absurd cc
 
 -- a place of a list after a write holds what was written, or what was there
 pub set_cases : {A : Type 0} (xs : List A) (g k : ℕ) (v w : A) → slice_get (slice_set xs g v) k ≡ Some w → (g ≡ k) ⊎ (slice_get xs k ≡ Some w)

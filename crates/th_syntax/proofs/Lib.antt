@@ -1,13 +1,19 @@
 pub mod Inverting
 pub mod Origins
-pub mod Standing
 pub mod Worked
+pub mod Reading
 pub mod ReadingParts
-mod Reading
 pub mod FirstFlaws
 pub mod Referring
 pub mod Complete
 pub mod WholeReading
+pub mod Spelling
+pub mod Within
+pub mod Places
+pub mod Ascending
 mod Spelled
 pub mod Visiting
 mod WorkedFiles
+pub mod Allowing
+pub mod Changing
+pub mod Acting

@@ -1,10 +1,15 @@
 -- How a form is read: one part after the other. A reader's proof goes by these steps.
 use Rattle.std.specs.Prelude.{◌≡◌, ℕ, ◌+◌, ◌-◌, ◌≤◌, Bool, true, false, cond, List, length, take, drop, Result, Ok, Err}
+use Rattle.std.specs.List.{concat}
 use Rattle.std.proofs.Common.{refl, sym, ap, subst, ◌∙◌, ltb, arith}
-use Rattle.std.proofs.lemmas.List.{drop-drop}
+use Rattle.std.proofs.lemmas.Bool.{ltb-false}
+use Rattle.std.proofs.lemmas.List.{drop-drop, length-append, length-take}
+use Rattle.th_syntax.specs.declared.cause.TheConstants as cause
 use Rattle.th_syntax.specs.declared.refusal.Flaw.{Flaw}
-use Rattle.th_syntax.specs.Forms.{Form, whole, item, wrong, ◌>>=◌, Found, read}
-use Rattle.th_syntax.specs.ClassBytes.{demand}
+use Rattle.th_syntax.specs.Flaws.{flaw_at}
+use Rattle.th_syntax.specs.Forms.{Form, whole, item, wrong, ◌>>=◌, Placed, number_of, Found, read}
+use Rattle.th_syntax.specs.ClassBytes.{number, run, demand}
+use Rattle.th_syntax.proofs.Reading.{read_stands}
 
 -- nothing is left to read
 pub read_whole : {A : Type 0} (x : A) (at : ℕ) (bytes : List ℕ) → read (whole x) at bytes ≡ Ok (x, at, bytes)
@@ -82,3 +87,49 @@ read_split {A = A} {B = B} f g at bytes found e = go (read f at bytes) refl
     go : (r : Result (Found A) Flaw) → read f at bytes ≡ r → (x : Found A) × (read f at bytes ≡ Ok x) × (read (g x.0) x.1 x.2 ≡ Ok found)
     go (Ok x) is = (x, is, sym (read_after f g at bytes x is) ∙ e)
     go (Err flaw) is = absurd (let never : (let r : Result (Found B) Flaw = Err flaw in r) ≡ Ok found = sym (read_stops f g at bytes flaw is) ∙ e in cc)
+
+-- ---- what the items of small forms are
+
+passed : {A : Type 0} (b : Bool) (d : Flaw) (x y : A) → cond b (Err d) (Ok x) ≡ (let r : Result A Flaw = Ok y in r) → x ≡ y
+passed true d x y e = absurd cc
+passed false d x y e = cc
+
+-- a number stands where the reading stood, and ends behind it
+pub number_place : (n at : ℕ) (bytes : List ℕ) (found : Found (Placed ℕ)) → read (number n) at bytes ≡ Ok found → (found.0.at ≡ at) × (found.1 ≡ at + n)
+unfolding read number
+number_place n at bytes found e =
+    let made : Found (Placed ℕ) = (record { at = at; value = number_of (take n bytes) }, at + n, drop n bytes) in
+    let same : made ≡ found = passed (ltb (length bytes) n) (flaw_at cause.TRUNCATED at) made found e in
+    (ap (λ (f : Found (Placed ℕ)). f.0.at) (sym same), ap (λ (f : Found (Placed ℕ)). f.1) (sym same))
+
+-- a run has as many bytes as it was to have
+pub run_place : (n at : ℕ) (bytes : List ℕ) (found : Found (Placed (List ℕ))) → read (run n) at bytes ≡ Ok found → (found.0.at ≡ at) × (at + length found.0.value ≡ found.1)
+unfolding read run
+run_place n at bytes found e =
+    let t = test_ok (ltb (length bytes) n) (flaw_at cause.TRUNCATED at) (let r : Result (Found (Placed (List ℕ))) Flaw = Ok (record { at = at; value = take n bytes }, at + n, drop n bytes) in r) found e in
+    let long : n ≤ length bytes = ltb-false _ _ t.0 in
+    let made : Found (Placed (List ℕ)) = (record { at = at; value = take n bytes }, at + n, drop n bytes) in
+    let same : made ≡ found = passed (ltb (length bytes) n) (flaw_at cause.TRUNCATED at) made found e in
+    let len : length (take n bytes) ≡ n = omega (arith, length-take n bytes) in (
+      ap (λ (f : Found (Placed (List ℕ))). f.0.at) (sym same),
+      subst (λ (f : Found (Placed (List ℕ))). at + length f.0.value ≡ f.1) same (ap (λ (k : ℕ). at + k) len),
+    )
+
+pub whole_found : {A : Type 0} (x : A) (at : ℕ) (bytes : List ℕ) (found : Found A) → read (whole x) at bytes ≡ Ok found → (found.0 ≡ x) × (found.1 ≡ at)
+whole_found {A = A} x at bytes found e =
+    let made : Found A = (x, at, bytes) in
+    let two : (let r : Result (Found A) Flaw = Ok made in r) ≡ Ok found = sym (read_whole x at bytes) ∙ e in
+    let same : made ≡ found = cc in
+    (ap (λ (f : Found A). f.0) (sym same), ap (λ (f : Found A). f.1) (sym same))
+
+pub demand_found : {B : Type 0} (test : Bool) (place refusal : ℕ) (g : Unit {0} → Form B) (at : ℕ) (bytes : List ℕ) (found : Found B) → read (demand test place refusal >>= g) at bytes ≡ Ok found → read (g tt) at bytes ≡ Ok found
+demand_found true place refusal g at bytes found e = sym (read_demand true place refusal g at bytes refl) ∙ e
+demand_found {B = B} false place refusal g at bytes found e =
+    absurd (let never : (let r : Result (Found B) Flaw = Err (flaw_at refusal place) in r) ≡ Ok found = sym (read_refusal false place refusal g at bytes refl) ∙ e in cc)
+
+-- what is read and what is left are all the bytes
+pub read_length : {A : Type 0} (f : Form A) (at : ℕ) (bytes : List ℕ) (found : Found A) → read f at bytes ≡ Ok found → found.1 + length found.2 ≡ at + length bytes
+read_length f at bytes found e =
+    let s = read_stands f at bytes found e in
+    let behind : found.1 ≡ at + length (concat s.items) = s.behind_is in
+    omega (arith, ap length s.front, length-append (concat s.items) found.2)

@@ -11,6 +11,7 @@ use Rattle.th_syntax.specs.Flaws.{flaw_at}
 use Rattle.th_syntax.specs.Forms.{Placed}
 use Rattle.th_syntax.specs.ClassBytes.{Entry, utf8, class, string, field, method, interface_method, name_and_type, tag_of, Pool}
 use Rattle.th_syntax.specs.PoolChecks.{entry_of, has_tag, utf8_in, utf8_of, class_in, class_of, string_in, string_of, names_in, member_by, member_in, tagged_member_of, refers_well, entry_flaw, entry_flaws}
+use Rattle.th_syntax.proofs.Inverting.{both}
 
 -- a test that gives no flaw holds
 no_flaw : (b : Bool) (flaw : Flaw) (rest : List Flaw) → cons_option (cond b None (Some flaw)) rest ≡ [] → (b ≡ true) × (rest ≡ [])
@@ -56,10 +57,6 @@ string_there pool i none = go (entry_of pool i) refl
     go None is = refl
     go (Some (string text)) is = utf8_there pool text ∙ entry_sound pool i (string text) none is
     go (Some other) is = refl
-
-both : (a b : Bool) → (a && b) ≡ true → (a ≡ true) × (b ≡ true)
-both true b e = (refl, e)
-both false b e = absurd cc
 
 -- two that are there are there together
 pairs : {A B : Type 0} (o : Option A) (p : Option B) → is_some o ≡ true → is_some p ≡ true → is_some (option_and_then (λ x. option_map (λ y. (let z : A × B = (x, y) in z)) p) o) ≡ true

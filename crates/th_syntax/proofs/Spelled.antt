@@ -8,24 +8,9 @@ use Rattle.std.proofs.lemmas.List.{append-nil, nil_from_length, length-append}
 use Rattle.std.proofs.lemmas.List.Concat.{flat_map-cons}
 use Rattle.th_syntax.specs.WellFormed.{is_name_byte, is_field_name}
 use Rattle.th_syntax.specs.Descriptors.{FieldType, byte_type, char_type, double_type, float_type, int_type, long_type, short_type, boolean_type, class_type, array_type, type_bytes, dimensions, is_named_well, is_type, IsFieldDescriptor, MethodType, result_bytes, method_bytes, is_result, is_method_type, IsMethodDescriptor, base_type, name_before, element_at, type_at, alone, only_if, field_type_of, types_at, result_at, method_at, method_type_of}
+use Rattle.th_syntax.proofs.Inverting.{and_then_some, map_some, some_is, both}
 
 -- ---- options and tests
-
--- a value that came of another
-map_some : {A B : Type 0} (f : A → B) (o : Option A) (x : B) → option_map f o ≡ Some x → (y : A) × (o ≡ Some y) × (f y ≡ x)
-map_some f None x e = absurd cc
-map_some f (Some y) x e = (y, refl, cc)
-
-then_some : {A B : Type 0} (f : A → Option B) (o : Option A) (x : B) → option_and_then f o ≡ Some x → (y : A) × (o ≡ Some y) × (f y ≡ Some x)
-then_some f None x e = absurd cc
-then_some f (Some y) x e = (y, refl, e)
-
-some_is : {A : Type 0} (x y : A) → (let o : Option A = Some x in o) ≡ Some y → x ≡ y
-some_is x y e = cc
-
-both : (a b : Bool) → (a && b) ≡ true → (a ≡ true) × (b ≡ true)
-both true b e = (refl, e)
-both false b e = absurd cc
 
 alone_some : {A : Type 0} (o : Option (A × List ℕ)) (x : A) → alone o ≡ Some x → o ≡ Some (x, [])
 alone_some None x e = absurd cc
@@ -192,7 +177,7 @@ types_step room b bytes x true is later e =
     let same : (let p : List FieldType × List ℕ = ([], bytes) in p) ≡ x = some_is ([], bytes) x e in
     subst (λ (y : List FieldType × List ℕ). b ∷ bytes ≡ flat_map type_bytes y.0 ++ (41 ∷ y.1)) same (ap (λ (k : ℕ). k ∷ bytes) (eqb-true b 41 is))
 types_step room b bytes x false is later e =
-    let first = then_some (more_types room) (type_at (b ∷ bytes)) x e in
+    let first = and_then_some (more_types room) (type_at (b ∷ bytes)) x e in
     let more = map_some (λ (y : List FieldType × List ℕ). (let p : List FieldType × List ℕ = (first.0.0 ∷ y.0, y.1) in p)) (types_at room first.0.1) x first.2 in
     let here : b ∷ bytes ≡ type_bytes first.0.0 ++ first.0.1 = type_spelled (b ∷ bytes) first.0 first.1 in
     let rest : first.0.1 ≡ flat_map type_bytes more.0.0 ++ (41 ∷ more.0.1) = later first.0.1 more.0 more.1 in
@@ -305,7 +290,7 @@ method_read (b ∷ bytes) m e = go (b == 40) refl e
     go : (t : Bool) → (b == 40) ≡ t → cond t (option_and_then with_result (types_at (length bytes) bytes)) None ≡ Some m → b ∷ bytes ≡ method_bytes m
     go false is here = absurd cc
     go true is here =
-        let params = then_some with_result (types_at (length bytes) bytes) m here in
+        let params = and_then_some with_result (types_at (length bytes) bytes) m here in
         let found = map_some (λ (o : Option FieldType). (let n : MethodType = record { params = params.0.0; result_type = o } in n)) (result_at params.0.1) m params.2 in
         let front : bytes ≡ flat_map type_bytes params.0.0 ++ (41 ∷ params.0.1) = types_spelled (length bytes) bytes params.0 params.1 in
         let back : params.0.1 ≡ result_bytes found.0 = result_spelled params.0.1 found.0 found.1 in

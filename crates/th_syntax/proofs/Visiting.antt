@@ -1,12 +1,12 @@
 -- A visit of the code of a method finds the offsets to which paths lead, and no others.
-use Rattle.std.proofs.Common.{◌≡◌, ℕ, zero, suc, ◌+◌, ◌≤◌, ◌==◌, ◌||◌, ◌⊎◌, inl, inr, Bool, true, false, not, cond, List, [], ◌∷◌, ◌++◌, length, Option, None, Some, refl, sym, ap, subst, ◌∙◌, arith, length-append}
+use Rattle.std.proofs.Common.{◌≡◌, ℕ, zero, suc, ◌+◌, ◌≤◌, ◌==◌, ◌||◌, ◌⊎◌, inl, inr, Bool, true, false, not, cond, if◌then◌else◌, List, [], ◌∷◌, ◌++◌, length, Option, None, Some, refl, sym, ap, subst, ◌∙◌, arith, length-append}
 use Rattle.std.specs.Prelude.{flat_map}
 use Rattle.std.specs.Option.{option_map, option_map_or}
 use Rattle.std.proofs.lemmas.Bool.{eq-eqb, eqb-true, eqb-false, or_left, or_right}
 use Rattle.th_base.specs.IdSet.{has}
 use Rattle.th_base.proofs.Membership.{has_append_cases, has_append_left, has_append_right, Contains-from_has, has-from_Contains}
 use Rattle.th_syntax.specs.declared.instr.Instr.{Instr}
-use Rattle.th_syntax.specs.Flow.{placed_at, instr_in, successors_of, IsReached, start, onward, without, visited, enough_looks, reached_offsets, is_reached}
+use Rattle.th_syntax.specs.Flow.{placed_at, instr_in, first_offset, offset_after, successors_of, IsReached, start, onward, without, visited, enough_looks, reached_offsets, is_reached}
 use Rattle.th_syntax.proofs.Inverting.{some_is, map_some}
 
 -- ---- the instructions that are left
@@ -156,3 +156,27 @@ pub path_from_found : (instrs : List (ℕ × Instr)) (offset : ℕ) → is_reach
 path_from_found instrs offset e =
     only_reached instrs (enough_looks instrs) instrs (0 ∷ []) (λ x i h. h)
     (λ x h. elim (has_cases 0 x [] h) [ inl same ↦ subst (IsReached instrs) same start | inr none ↦ absurd cc ]) offset e
+
+-- ---- the instruction behind another
+
+-- an instruction stands at the offset
+pub record IsFound (instrs : List (ℕ × Instr)) (offset : ℕ) : Type 0 where
+  pub at : ℕ × Instr
+  pub found : placed_at instrs offset ≡ Some at
+
+found_more : (i : ℕ × Instr) (rest : List (ℕ × Instr)) (offset : ℕ) (b : Bool) → (i.0 == offset) ≡ b → IsFound rest offset → IsFound (i ∷ rest) offset
+found_more i rest offset true is found = record { at = i; found = ap (λ b. cond b (Some i) (placed_at rest offset)) is }
+found_more i rest offset false is found = record { at = found.at; found = ap (λ b. cond b (Some i) (placed_at rest offset)) is ∙ found.found }
+
+first_found : (rest : List (ℕ × Instr)) (offset : ℕ) → first_offset rest ≡ Some offset → IsFound rest offset
+first_found [] offset e = absurd cc
+first_found (i ∷ rest) offset e = record { at = i; found = ap (λ b. cond b (Some i) (placed_at rest offset)) (eq-eqb i.0 offset (some_is i.0 offset e)) }
+
+after_by : (i : ℕ × Instr) (rest : List (ℕ × Instr)) (offset next : ℕ) (b : Bool) → (if b then first_offset rest else offset_after rest offset) ≡ Some next
+    → (offset_after rest offset ≡ Some next → IsFound rest next) → IsFound (i ∷ rest) next
+after_by i rest offset next true e behind = found_more i rest next (i.0 == next) refl (first_found rest next e)
+after_by i rest offset next false e behind = found_more i rest next (i.0 == next) refl (behind e)
+
+pub after_found : (instrs : List (ℕ × Instr)) (offset next : ℕ) → offset_after instrs offset ≡ Some next → IsFound instrs next
+after_found [] offset next e = absurd cc
+after_found (i ∷ rest) offset next e = after_by i rest offset next (i.0 == offset) e (after_found rest offset next)

@@ -1,8 +1,10 @@
 -- Reading whole bytes gives the class file that they stand for, or their first flaw.
-use Rattle.std.proofs.Common.{◌≡◌, ◌⊎◌, ℕ, zero, suc, ◌<◌, Bool, true, false, cond, eqb, List, [], ◌∷◌, ◌++◌, length, take, drop, Option, Some, None, Result, Ok, Err, refl, sym, ap, subst, ◌∙◌, arith, inl, inr}
+use Rattle.std.proofs.Common.{◌≡◌, ◌⊎◌, ℕ, zero, suc, ◌<◌, ◌&&◌, Bool, true, false, cond, eqb, ltb, List, [], ◌∷◌, ◌++◌, length, take, drop, Option, Some, None, Result, Ok, Err, refl, sym, ap, subst, ◌∙◌, arith, inl, inr}
 use Rattle.std.specs.Prelude.{IsTrue, ◌↔◌}
+use Rattle.std.specs.List.{All, AllByRecursion, list_all}
 use Rattle.std.specs.Str.{bytes_eq}
-use Rattle.std.proofs.lemmas.Bool.{eqb-true}
+use Rattle.std.proofs.lemmas.Bool.{eqb-true, ltb-true}
+use Rattle.std.proofs.lemmas.List.Elements.{All-from_recursion}
 use Rattle.std.proofs.lemmas.List.{take-append-drop, nil_from_length}
 use Rattle.std.proofs.lemmas.Slice.Eq.{bytes_eq-Decides}
 use Rattle.th_syntax.specs.declared.class_file.ClassFile.{ClassFile}
@@ -15,6 +17,7 @@ use Rattle.th_syntax.specs.Checks.{second_pass, third_pass, fourth_pass}
 use Rattle.th_syntax.specs.ClassGrammar.{are_bytes, class_file_of, IsWhole, IsClassFile}
 use Rattle.th_syntax.specs.FirstFlaw.{FirstFlaw, no_magic, items, trailing, indices, names, content}
 use Rattle.th_syntax.specs.Reader.{unless_flawed, valued, checked_class, behind_items, reading}
+use Rattle.th_syntax.proofs.Inverting.{both}
 use Rattle.th_syntax.proofs.Reading.{stands_read, read_stands, flawed_read, read_flawed}
 use Rattle.th_syntax.proofs.FirstFlaws.{first_none, first_some, first_is}
 use Rattle.th_syntax.proofs.Complete.{complete}
@@ -72,12 +75,15 @@ passes_flaw bytes c flaw whole e = in_second (first_of (second_pass c)) refl e
     in_value : (value : Option ClassFile) → class_file_of c ≡ value → second_pass c ≡ [] → third_pass c ≡ [] → fourth_pass c ≡ [] → valued value ≡ Err flaw → FirstFlaw bytes flaw
     in_value (Some w) is a b d e = absurd cc
     in_value None is a b d e = absurd (complete c a b d is)
+
     in_fourth : (found : Option Flaw) → first_of (fourth_pass c) ≡ found → second_pass c ≡ [] → third_pass c ≡ [] → unless_flawed found (valued (class_file_of c)) ≡ Err flaw → FirstFlaw bytes flaw
     in_fourth (Some f) is a b e = content c whole a b (subst (IsFirst (fourth_pass c)) (err_is f flaw e) (first_some (fourth_pass c) f is))
     in_fourth None is a b e = in_value (class_file_of c) refl a b (first_none (fourth_pass c) is) e
+
     in_third : (found : Option Flaw) → first_of (third_pass c) ≡ found → second_pass c ≡ [] → unless_flawed found (unless_flawed (first_of (fourth_pass c)) (valued (class_file_of c))) ≡ Err flaw → FirstFlaw bytes flaw
     in_third (Some f) is a e = names c whole a (subst (IsFirst (third_pass c)) (err_is f flaw e) (first_some (third_pass c) f is))
     in_third None is a e = in_fourth (first_of (fourth_pass c)) refl a (first_none (third_pass c) is) e
+
     in_second : (found : Option Flaw) → first_of (second_pass c) ≡ found → unless_flawed found (unless_flawed (first_of (third_pass c)) (unless_flawed (first_of (fourth_pass c)) (valued (class_file_of c)))) ≡ Err flaw → FirstFlaw bytes flaw
     in_second (Some f) is e = indices c whole (subst (IsFirst (second_pass c)) (err_is f flaw e) (first_some (second_pass c) f is))
     in_second None is e = in_third (first_of (third_pass c)) refl (first_none (second_pass c) is) e
@@ -119,6 +125,7 @@ whole_flaw bytes others (Ok found) flaw begins is e = by_rest found.2 refl e
   where
     stands : Stands class_file 4 others found.0 found.1 found.2
     stands = read_stands class_file 4 others found is
+
     by_rest : (rest : List ℕ) → found.2 ≡ rest → cond (eqb (length rest) 0) (checked_class found.0) (Err (flaw_at cause.TRAILING found.1)) ≡ Err flaw → FirstFlaw bytes flaw
     by_rest [] none e =
         passes_flaw bytes found.0 flaw
@@ -200,3 +207,10 @@ either bytes are = go (reading bytes) refl
     go : (r : Answer) → reading bytes ≡ r → ((v : ClassFile) × IsClassFile bytes v) ⊎ ((flaw : Flaw) × FirstFlaw bytes flaw)
     go (Ok v) is = inl (v, read_value bytes v are is)
     go (Err flaw) is = inr (flaw, read_flaw bytes flaw is)
+
+pub all_bytes : (bytes : List ℕ) (v : ClassFile) → IsClassFile bytes v → All (λ b. b < 256) bytes
+all_bytes bytes v f = All-from_recursion (λ b. b < 256) bytes (go bytes f.bytes_are)
+  where
+    go : (bs : List ℕ) → list_all (λ b. ltb b 256) bs ≡ true → AllByRecursion (λ b. b < 256) bs
+    go [] e = tt
+    go (b ∷ bs) e = let two = both (ltb b 256) (list_all (λ c. ltb c 256) bs) e in (ltb-true b 256 two.0, go bs two.1)

@@ -1,13 +1,15 @@
 -- The instructions of a code array, and the checks that they fail (Java specification 4.9.1).
-use Rattle.std.specs.Prelude.{ℕ, zero, suc, ◌+◌, ◌-◌, ◌==◌, ◌&&◌, not, min, nat_le, nat_lt, List, [], ◌∷◌, ◌++◌, map, length, Bool, true, false, Option, Some, None, Result, Ok, Err, if◌then◌else◌}
+use Rattle.std.specs.Prelude.{ℕ, zero, suc, ◌+◌, ◌-◌, ◌==◌, ◌&&◌, min, nat_le, nat_lt, List, [], ◌∷◌, ◌++◌, Bool, true, false, Option, Some, None, Result, Ok, Err, if◌then◌else◌}
 use Rattle.std.specs.List.{filter_map, list_all, list_any}
 use Rattle.std.specs.Option.{option_map}
 use Rattle.th_syntax.specs.declared.cause.TheConstants as cause
 use Rattle.th_syntax.specs.declared.limit.TheConstants.{MOST_CODE_BYTES}
 use Rattle.th_syntax.specs.declared.instr.Instr.{Instr}
-use Rattle.th_syntax.specs.declared.instr.Instr.TheVariants.{ILoad, LLoad, ALoad, IStore, LStore, AStore, Inc, IfZero, IfInts, IfSame, IfOther, IfNull, IfNotNull, Goto, TableSwitch, LookupSwitch, IReturn, LReturn, AReturn, Return, Throw}
+use Rattle.th_syntax.specs.declared.instr.TheConstants.{OUTSIDE}
+use Rattle.th_syntax.specs.declared.instr.Instr.TheVariants.{ILoad, LLoad, ALoad, IStore, LStore, AStore, Inc}
 use Rattle.th_syntax.specs.declared.refusal.Flaw.{Flaw}
 use Rattle.th_syntax.specs.Flaws.{flaw_at, unless}
+use Rattle.th_syntax.specs.Flow.{leads_to}
 use Rattle.th_syntax.specs.Forms.{Placed, Found, Stands, read}
 use Rattle.th_syntax.specs.ClassBytes.{Pool, RawCode}
 use Rattle.th_syntax.specs.CodeBytes.{Spelled, instr, flawed, instruction}
@@ -30,12 +32,13 @@ decoded pool zero pc (b ∷ bytes) =
     record { at = pc; value = one.0 } ∷ decoded pool (one.1 - 1) (pc + 1) bytes
 decoded pool (suc inside) pc (b ∷ bytes) = decoded pool inside (pc + 1) bytes
 
+abbrev pub spelled_instr : ℕ → Spelled → Option (ℕ × Instr)
+spelled_instr pc (instr i) = Some (pc, i)
+spelled_instr pc (flawed number numbers) = None
+
+-- an instruction, with its offset in the code, where it is one
 abbrev pub instr_of : Placed Spelled → Option (ℕ × Instr)
-instr_of one = go one.value
-  where
-    go : Spelled → Option (ℕ × Instr)
-    go (instr i) = Some (one.at, i)
-    go (flawed number numbers) = None
+instr_of one = spelled_instr one.at one.value
 
 -- the instructions of a code array, each with its offset in the code
 unfoldable pub instrs_in : Pool → List ℕ → List (ℕ × Instr)
@@ -71,43 +74,24 @@ instr_flaw max_locals at one = option_map (λ number. flaw_at number (at + one.a
 
 -- ---- the checks of the flow, which are made where each instruction is without flaw
 
--- the offsets that an instruction may jump to
-abbrev pub targets_of : Instr → List ℕ
-targets_of (IfZero relation target) = target ∷ []
-targets_of (IfInts relation target) = target ∷ []
-targets_of (IfSame target) = target ∷ []
-targets_of (IfOther target) = target ∷ []
-targets_of (IfNull target) = target ∷ []
-targets_of (IfNotNull target) = target ∷ []
-targets_of (Goto target) = target ∷ []
-targets_of (TableSwitch low targets other) = other ∷ targets
-targets_of (LookupSwitch pairs other) = other ∷ map (λ pair. pair.1) pairs
-targets_of other = []
-
--- whether the instruction behind it may follow an instruction (Java specification 4.9.1)
-abbrev pub falls_through : Instr → Bool
-falls_through (Goto target) = false
-falls_through (TableSwitch low targets other) = false
-falls_through (LookupSwitch pairs other) = false
-falls_through IReturn = false
-falls_through LReturn = false
-falls_through AReturn = false
-falls_through Return = false
-falls_through Throw = false
-falls_through other = true
-
 -- whether an instruction starts at this offset
 abbrev pub is_start : List (ℕ × Instr) → ℕ → Bool
 is_start instrs target = list_any (λ one. one.0 == target) instrs
 
--- An instruction jumps to instructions alone, and the last one doesn't go on.
-abbrev pub flows_well : List (ℕ × Instr) → Bool → Instr → Bool
-flows_well instrs is_last i = list_all (is_start instrs) (targets_of i) && not (is_last && falls_through i)
+-- the offset behind an instruction that these instructions follow; behind the last none starts
+abbrev pub offset_behind : List (ℕ × Instr) → ℕ
+offset_behind [] = OUTSIDE
+offset_behind (next ∷ more) = next.0
+
+-- An instruction that `more` follow leads to instructions alone: it jumps to none of its operands, and
+-- doesn't go on past the last one.
+abbrev pub flows_well : List (ℕ × Instr) → List (ℕ × Instr) → Instr → Bool
+flows_well instrs more i = list_all (is_start instrs) (leads_to (offset_behind more ∷ []) i)
 
 -- the flaws of the flow of these instructions, the last of a code array
 abbrev pub flow_flaws_from : List (ℕ × Instr) → ℕ → List (ℕ × Instr) → List Flaw
 flow_flaws_from instrs at [] = []
-flow_flaws_from instrs at (one ∷ more) = unless (flows_well instrs (length more == 0) one.1) (flaw_at cause.CODE_SHAPE (at + one.0)) ++ flow_flaws_from instrs at more
+flow_flaws_from instrs at (one ∷ more) = unless (flows_well instrs more one.1) (flaw_at cause.CODE_SHAPE (at + one.0)) ++ flow_flaws_from instrs at more
 
 unfoldable pub flow_flaws : ℕ → List (ℕ × Instr) → List Flaw
 flow_flaws at instrs = flow_flaws_from instrs at instrs
@@ -139,4 +123,4 @@ code_flaws pool code =
 pub data AreSpelled (pool : Pool) : ℕ → List ℕ → List (ℕ × Instr) → Type 0 where
   none : {pc : ℕ} → AreSpelled pool pc [] []
   more : {pc : ℕ} {bytes : List ℕ} (i : Instr) (behind : ℕ) (others : List ℕ) (instrs : List (ℕ × Instr))
-    → Stands (instruction pool) pc bytes (instr i) behind others → AreSpelled pool behind others instrs → AreSpelled pool pc bytes ((pc, i) ∷ instrs)
+      → Stands (instruction pool) pc bytes (instr i) behind others → AreSpelled pool behind others instrs → AreSpelled pool pc bytes ((pc, i) ∷ instrs)

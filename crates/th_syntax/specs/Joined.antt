@@ -1,15 +1,10 @@
 -- Which static fields and Activity classes are joined in a state. All of it is this project's own.
-use Rattle.std.specs.Prelude.{ℕ, ◌≡◌, true, List, map, Some, slice_get, Contains}
+use Rattle.std.specs.Prelude.{ℕ, ◌≡◌, true, List, Some, slice_get, Contains}
 use Rattle.th_syntax.specs.declared.class_file.ClassFile.{ClassFile}
 use Rattle.th_syntax.specs.Flags.{is_static}
-use Rattle.th_syntax.specs.Machine.{Value, Address, Object, Instance, Array, State}
+use Rattle.th_syntax.specs.Machine.{Value, Address, Object, Instance, Array, State, parts_of}
 use Rattle.th_syntax.specs.Program.{Owned, fields_of, is_activity}
-use Rattle.th_syntax.specs.Initial.{is_reference}
-
--- the values in an object's instance fields, or an array's elements
-abbrev pub parts_of : Object → List Value
-parts_of (Instance c fields) = map (λ f. f.1) fields
-parts_of (Array descriptor elements) = elements
+use Rattle.th_base.specs.ValueKinds.{is_reference}
 
 -- a value leads to the object at an address through zero or more instance fields and elements
 pub data Leads (heap : List Object) (to : ℕ) : Value → Type 0 where
@@ -18,7 +13,7 @@ pub data Leads (heap : List Object) (to : ℕ) : Value → Type 0 where
 
 -- the object's class is exactly this one
 abbrev pub IsOfClass : Object → ℕ → Type 0
-IsOfClass (Instance c fields) class = c ≡ class
+IsOfClass (Instance c fields) class = c.0 ≡ class
 IsOfClass (Array descriptor elements) class = ⊥
 
 -- a static field of reference type, by its number. Only the files' classes declare fields.
@@ -28,11 +23,9 @@ pub record IsStaticReference (files : List ClassFile) (field : ℕ) : Type 0 whe
   pub static_one : is_static declared.member ≡ true
   pub reference : is_reference declared.member.descriptor ≡ true
 
--- a static field and a class are joined: the field is of reference type, the class is Activity or a
--- subclass of it, and the field's value leads to an object whose class is exactly this one
-pub record IsJoined (files : List ClassFile) (s : State) (field class : ℕ) : Type 0 where
+-- a static field of reference type leads to an object whose class is exactly this one
+pub record IsHolding (files : List ClassFile) (s : State) (field class : ℕ) : Type 0 where
   pub is_field : IsStaticReference files field
-  pub is_activity_class : is_activity files class ≡ true
   pub value : Value
   pub held : slice_get s.statics field ≡ Some value
   pub address : ℕ
@@ -40,3 +33,9 @@ pub record IsJoined (files : List ClassFile) (s : State) (field class : ℕ) : T
   pub object : Object
   pub stands : slice_get s.heap address ≡ Some object
   pub exactly : IsOfClass object class
+
+-- a static field and a class are joined: the field leads to an object of this class, which is Activity
+-- or a subclass of it
+pub record IsJoined (files : List ClassFile) (s : State) (field class : ℕ) : Type 0 where
+  pub holds : IsHolding files s field class
+  pub is_activity_class : is_activity files class ≡ true

@@ -2,10 +2,11 @@
 use Rattle.std.specs.Prelude.{◌≡◌, ◌⊎◌, List, [], ◌∷◌, Some}
 use Rattle.th_base.specs.declared.lifecycle.Lifecycle.{Lifecycle}
 use Rattle.th_syntax.specs.declared.class_file.ClassFile.{ClassFile}
+use Rattle.th_syntax.specs.declared.event.Event.{Event}
 use Rattle.th_syntax.specs.Machine.{State}
 use Rattle.th_syntax.specs.Initial.{initial}
 use Rattle.th_syntax.specs.Step.{step}
-use Rattle.th_syntax.specs.Harness.{Event, event}
+use Rattle.th_syntax.specs.Harness.{event}
 
 -- a state follows by a step, or by an event of the harness
 abbrev pub Follows : Lifecycle → List ClassFile → State → State → Type 0

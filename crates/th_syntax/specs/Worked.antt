@@ -7,8 +7,8 @@ use Rattle.th_syntax.specs.declared.class_file.Member.{Member}
 use Rattle.th_syntax.specs.declared.instr.Instr.{Instr}
 use Rattle.th_syntax.specs.declared.instr.Instr.TheVariants.{ALoad, Null, InvokeSpecial, PutStatic, Return}
 use Rattle.th_syntax.specs.declared.instr.MemberRef.{MemberRef}
-use Rattle.th_syntax.specs.BuiltIn.{activity_class}
-use Rattle.th_syntax.specs.Machine.{Value, Instance, Done, State}
+use Rattle.th_base.specs.declared.built_in.TheConstants.{ACTIVITY}
+use Rattle.th_syntax.specs.Machine.{Value, Instance, Done, State, class_id}
 use Rattle.th_syntax.specs.Program.{built_in_classes}
 use Rattle.th_syntax.specs.Step.{step}
 
@@ -20,7 +20,7 @@ abbrev pub last_ref : MemberRef
 last_ref = record { owner = codes "Act"; name = codes "last"; descriptor = codes "Landroid/app/Activity;" }
 
 abbrev pub super_constructor : MemberRef
-super_constructor = record { owner = activity_class; name = codes "<init>"; descriptor = codes "()V" }
+super_constructor = record { owner = ACTIVITY.now; name = codes "<init>"; descriptor = codes "()V" }
 
 -- a method of two instructions, of one and of three bytes, and `return`
 abbrev pub method_of_two : List ℕ → List ℕ → Instr → Instr → Member
@@ -50,7 +50,7 @@ activity_with fields methods = record {
   major = 52;
   access = 33;
   name = codes "Act";
-  super_name = Some activity_class;
+  super_name = Some ACTIVITY.now;
   interfaces = [];
   fields = fields;
   methods = methods;
@@ -77,7 +77,7 @@ steps files (suc n) s = steps files n (option_and_then (step files) s)
 -- launched, at this stage
 abbrev pub one_launched : List Value → ℕ → State
 one_launched statics stage = record {
-  heap = Instance 11 [] ∷ [];
+  heap = Instance (class_id 11) [] ∷ [];
   statics = statics;
   marks = map (λ c. Done) built_in_classes ++ Done ∷ [];
   frames = [];

@@ -5,8 +5,9 @@
 //! follow each other in its bytes.
 //!
 //! The definitions that the layers above cite stand in `specs/`: `ClassGrammar` relates bytes to the
-//! class file that they stand for, and `FirstFlaw` other bytes to the reason why they are refused;
-//! docs/CLASS-FILES.md lists the checks. `Layout`, `Grammar` and `Names` have the part of class files
+//! class file that they stand for, `FirstFlaw` other bytes to the reason why they are refused, and
+//! `Reader` is both as one function; docs/CLASS-FILES.md lists the checks. `cause`, `tag`, `opcode` and
+//! `limit` name the numbers that they cite. `Layout`, `Grammar` and `Names` have the part of class files
 //! that the first path takes. `Machine` has the states of the machine
 //! that runs a program, `Step` its steps, `Harness` the events that start code, `Run` its runs and
 //! `Joined` what a static field leads to; `laws` has what every run keeps. docs/MACHINE.md tells the
@@ -15,17 +16,25 @@
 
 pub mod cause;
 mod class_file;
+mod event;
 mod flags;
 mod instr;
 pub mod laws;
 mod layout;
 pub mod limit;
+mod machine;
 pub mod opcode;
+mod program;
 mod refusal;
 pub mod tag;
 
 pub use class_file::{ClassFile, Code, Constant, Member};
+pub use event::Event;
 pub use flags::{ACC_ABSTRACT, ACC_INTERFACE, ACC_NATIVE, ACC_STATIC, has_flag};
 pub use instr::{Instr, MemberRef, OUTSIDE, Primitive, StackOp};
 pub use layout::{FieldLayout, FileLayout, Group, MethodLayout, PoolEntry};
+pub use machine::{
+    Frame, InitStage, LaunchStage, Launched, MOST_VALUES_HELD, Mark, Object, Slot, State, Value,
+};
+pub use program::Program;
 pub use refusal::{Flaw, Refusal};

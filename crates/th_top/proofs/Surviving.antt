@@ -1,12 +1,14 @@
 -- The alarms of an accepted class are enough: what is joined in a reachable state is among them.
-use Rattle.std.proofs.Common.{◌≡◌, ℕ, zero, suc, ◌+◌, ◌-◌, ◌≤◌, ◌==◌, ◌&&◌, ◌||◌, ◌⊎◌, inl, inr, Bool, true, false, cond, List, [], ◌∷◌, ◌++◌, Option, None, Some, slice_get, refl, sym, ap, subst, ◌∙◌, if◌then◌else◌, arith}
-use Rattle.std.specs.Prelude.{map, find, filter, nat_lt}
+use Rattle.std.proofs.Common.{◌≡◌, ℕ, zero, suc, ◌+◌, ◌-◌, ◌≤◌, ◌==◌, ◌&&◌, ◌||◌, ◌⊎◌, inl, inr, Bool, true, false, not, cond, List, [], ◌∷◌, ◌++◌, Option, None, Some, slice_get, refl, sym, ap, subst, ◌∙◌, if◌then◌else◌, arith}
+use Rattle.std.specs.Prelude.{map, find, filter, nat_le, is_some}
 use Rattle.std.specs.List.{list_any, list_all, AllByRecursion}
 use Rattle.std.specs.Option.{option_and_then, option_map, option_map_or, option_or}
 use Rattle.std.specs.Str.{bytes_eq}
-use Rattle.std.proofs.lemmas.Bool.{ltb-false, and_from, or_left, or_right}
+use Rattle.std.proofs.lemmas.Bool.{not-true, and_from, or_left, or_right}
 use Rattle.std.proofs.lemmas.Slice.Eq.{bytes_eq-Decides}
 use Rattle.th_base.specs.declared.lifecycle.Lifecycle.{Lifecycle}
+use Rattle.th_base.specs.declared.number.ClassId.{ClassId}
+use Rattle.th_base.specs.declared.number.FieldId.{FieldId}
 use Rattle.th_base.specs.declared.class.ClassInfo.{ClassInfo}
 use Rattle.th_base.specs.declared.class.FieldInfo.{FieldInfo}
 use Rattle.th_base.specs.Hierarchy.{first_some, declared_field, resolved_field, supertypes_of}
@@ -20,20 +22,29 @@ use Rattle.th_syntax.specs.declared.class_file.Constant.{Constant}
 use Rattle.th_syntax.specs.declared.instr.Instr.{Instr}
 use Rattle.th_syntax.specs.declared.instr.Instr.TheVariants.{PutStatic, New}
 use Rattle.th_syntax.specs.declared.instr.MemberRef.{MemberRef}
-use Rattle.th_syntax.specs.Flags.{is_static}
+use Rattle.th_base.specs.declared.built_in.TheConstants.{CONSTRUCTOR}
+use Rattle.th_base.specs.declared.handler.TheConstants.{TAKES_NOTHING}
+use Rattle.th_syntax.specs.Flags.{is_static, has_flag, is_abstract_method, is_interface, is_abstract_class}
 use Rattle.th_syntax.specs.Refs.{is_same_ref}
 use Rattle.th_syntax.specs.Grammar.{StandsFor, class_file_of, class_with, all_there, field_value, member_value, member_with, method_value, is_sound_entry, text_at, class_at, member_ref}
-use Rattle.th_syntax.specs.Machine.{Value, NullValue, Object, Instance, Array, State}
-use Rattle.th_syntax.specs.Program.{Owned, all_classes, fields_of, methods_of, field_infos, hierarchy_of, number_named, code_of, instr_at, file_class, is_activity}
-use Rattle.th_syntax.specs.Initial.{is_reference, is_long, default_value}
-use Rattle.th_syntax.specs.Step.{field_resolved}
-use Rattle.th_syntax.specs.Harness.{can_be_made, is_launchable}
+use Rattle.th_syntax.specs.declared.machine.Value.{Value}
+use Rattle.th_syntax.specs.declared.machine.Object.{Object}
+use Rattle.th_syntax.specs.declared.machine.State.{State}
+use Rattle.th_syntax.specs.declared.machine.Value.TheVariants.{Null as NullValue}
+use Rattle.th_syntax.specs.declared.machine.Object.TheVariants.{Instance, Array}
+use Rattle.th_syntax.specs.Program.{Owned, all_classes, fields_of, methods_of, field_infos, hierarchy_of, number_named, code_of, instr_at, method_infos, is_activity, is_launchable}
+use Rattle.th_syntax.specs.Initial.{default_value}
+use Rattle.th_base.specs.ValueKinds.{is_reference, is_long}
+use Rattle.th_syntax.specs.Fields.{field_resolved}
+use Rattle.th_base.specs.declared.built_in.TheConstants.{BUILT_IN_COUNT}
+use Rattle.th_base.specs.declared.class.MethodInfo.{MethodInfo}
+use Rattle.th_base.specs.Launchable as of_classes
 use Rattle.th_syntax.specs.Run.{IsReachable}
 use Rattle.th_syntax.specs.Joined.{IsOfClass, Leads, here, through}
 use Rattle.th_syntax.specs.Facts.{IsOriginal, IsStoredInto, IsCreated, IsMade}
 use Rattle.th_syntax.proofs.Inverting.{and_then_some, map_some, map_or_true, some_is, all_at}
 use Rattle.th_top.specs.FirstForm.{ref_to, is_static_named, declares_static, is_plain_instr, is_plain_code, is_plain_method, has_room, has_plain_flags, has_plain_name, IsFirstForm, IsAccepted}
-use Rattle.th_top.specs.Report.{stores_into, method_stores, is_stored, is_alarming, alarms_of}
+use Rattle.th_top.specs.Report.{stores_into, method_stores, is_stored, is_alarming, alarms_of, is_launch_constructor, can_be_made}
 use Rattle.th_top.specs.Safety.{IsAlarm, AreAllAlarms}
 use Rattle.th_top.proofs.Sets.{both_true, same_is, same_of}
 
@@ -207,7 +218,7 @@ pub record IsIn (files : List ClassFile) (method : ℕ) (i : Instr) : Type 0 whe
 pair_is : (x : ℕ × Instr) (i : Instr) → x.1 ≡ i → x ≡ (x.0, i)
 pair_is x i e = ap (λ (j : Instr). let y : ℕ × Instr = (x.0, j) in y) e
 
-instr_in : (files : List ClassFile) (method offset : ℕ) (i : Instr) → instr_at files method offset ≡ Some i → IsIn files method i
+pub instr_in : (files : List ClassFile) (method offset : ℕ) (i : Instr) → instr_at files method offset ≡ Some i → IsIn files method i
 instr_in files method offset i e =
     let code = and_then_some (λ (code : Code). option_map (λ i. i.1) (find (λ i. i.0 == offset) code.instrs)) (code_of files method) i e in
     let owned = and_then_some (λ (m : Owned). m.member.code) (slice_get (methods_of files) method) code.0 code.1 in
@@ -223,7 +234,7 @@ instr_in files method offset i e =
       stands = found.stands ∙ ap (λ (x : ℕ × Instr). let o : Option (ℕ × Instr) = Some x in o) (pair_is placed.0 i placed.2);
     }
 
-plain_at : (class : ClassFile) (method : ℕ) (i : Instr) → IsFirstForm class → IsIn (alone class) method i → is_plain_instr (declares_static class) i ≡ true
+pub plain_at : (class : ClassFile) (method : ℕ) (i : Instr) → IsFirstForm class → IsIn (alone class) method i → is_plain_instr (declares_static class) i ≡ true
 plain_at class method i form found =
     let plain = all_test_at (has_plain_code class) (methods_of (alone class)) method found.owned (all_plain class form) found.is_method in
     let whole : list_all (λ j. is_plain_instr (declares_static class) j.1) found.code.instrs ≡ true =
@@ -232,7 +243,7 @@ plain_at class method i form found =
 
 not_created : (class : ClassFile) (number : ℕ) → IsFirstForm class → IsCreated (alone class) number → ⊥
 not_created class number form created =
-    let plain : false ≡ true = plain_at class created.method (New created.name) form (instr_in (alone class) created.method created.offset (New created.name) created.stands) in
+    let plain : false ≡ true = plain_at class created.created.method (New created.name) form (instr_in (alone class) created.created.method created.created.offset (New created.name) created.created.stands) in
     cc
 
 -- ---- a field that a store resolves to
@@ -325,33 +336,60 @@ stored_somewhere class r s method found same =
 -- a static field that is stored into is alarming
 alarming : (class : ClassFile) (field : ℕ) (m : Member) → IsFirstForm class → IsStoredInto (alone class) field → slice_get class.fields field ≡ Some m → is_static m ≡ true → is_alarming (is_stored class) class m ≡ true
 alarming class field m form stored at static_one =
-    let found = instr_in (alone class) stored.method stored.offset (PutStatic stored.reference) stored.stands in
-    let plain : declares_static class stored.reference ≡ true = plain_at class stored.method (PutStatic stored.reference) form found in
+    let found = instr_in (alone class) stored.stored.method stored.stored.offset (PutStatic stored.reference) stored.stored.stands in
+    let plain : declares_static class stored.reference ≡ true = plain_at class stored.stored.method (PutStatic stored.reference) form found in
     let resolved = subst (IsResolved class stored.reference) stored.numbered (resolved_to class stored.reference stored.resolved stored.resolves) in
     let same : resolved.member ≡ m = some_is resolved.member m (sym resolved.stands ∙ at) in
     let ref : stored.reference ≡ ref_to class resolved.member = ref_is class.name resolved.member.name resolved.member.descriptor stored.reference (owner_is class stored.reference plain) resolved.name resolved.descriptor in
     let is : stored.reference ≡ ref_to class m = ref ∙ ap (ref_to class) same in
     and_from (is_static m) (is_stored class (ref_to class m)) static_one
-    (stored_somewhere class (ref_to class m) stored.reference stored.method found (same_of stored.reference (ref_to class m) is))
+    (stored_somewhere class (ref_to class m) stored.reference stored.stored.method found (same_of stored.reference (ref_to class m) is))
 
 -- ---- the class that is launched
 
-one_at : (class file : ClassFile) (n : ℕ) → slice_get (class ∷ []) n ≡ Some file → (n ≡ 0) × (class ≡ file)
-one_at class file zero e = (refl, some_is class file e)
-one_at class file (suc n) e = absurd cc
+-- a constructor that the hierarchy knows as one is one of the class, whose methods are not abstract
+constructor_too : (name descriptor instance code abstract : Bool) → abstract ≡ false → (name && (descriptor && (instance && code))) ≡ true → (name && (descriptor && (instance && not abstract))) ≡ true
+constructor_too true true true code false is e = refl
+constructor_too true true true code true is e = absurd cc
+constructor_too true true false code abstract is e = absurd cc
+constructor_too true false instance code abstract is e = absurd cc
+constructor_too false descriptor instance code abstract is e = absurd cc
 
-file_at : (class file : ClassFile) (c : ℕ) (b : Bool) → nat_lt c 11 ≡ b → (if b then None else slice_get (class ∷ []) (c - 11)) ≡ Some file → (c ≡ 11) × (class ≡ file)
-file_at class file c true is e = absurd cc
-file_at class file c false is e =
-    let at = one_at class file (c - 11) e in
-    let high : 11 ≤ c = ltb-false c 11 is in
-    (let h : c ≡ 11 = omega (arith, at.0, high) in h, at.1)
+not_abstract : (class : ClassFile) (m : Member) → is_plain_method (declares_static class) m ≡ true → is_abstract_method m ≡ false
+not_abstract class m e =
+    let flags = (both_true (has_plain_flags m) _ e).0 in
+    let rest = both_true (not (is_static m)) _ flags in
+    not-true (is_abstract_method m) (both_true (not (has_flag m.access 256)) (not (is_abstract_method m)) rest.1).1
 
-launched_class : (class : ClassFile) (c : ℕ) → is_launchable (alone class) c ≡ true → (c ≡ 11) × (can_be_made class ≡ true)
-launched_class class c e =
-    let file = map_or_true (λ (k : ClassFile). is_activity (alone class) c && can_be_made k) (file_class (alone class) c) e in
-    let at = file_at class file.0 c (nat_lt c 11) refl file.1 in
-    (at.0, ap can_be_made at.1 ∙ (both_true (is_activity (alone class) c) (can_be_made file.0) file.2).1)
+abbrev info_of : ℕ → Member → MethodInfo
+info_of n m = record { id = record { 0 = n }; name = m.name; descriptor = m.descriptor; is_static = is_static m; is_private = has_flag m.access 2; is_abstract = not (is_some m.code) }
+
+constructor_by : (class : ClassFile) (m : Member) (ms : List Member) (n : ℕ) (b : Bool) → is_plain_method (declares_static class) m ≡ true
+    → of_classes.is_launch_constructor (info_of n m) ≡ b → (b || list_any of_classes.is_launch_constructor (method_infos (n + 1) ms)) ≡ true
+    → (list_any of_classes.is_launch_constructor (method_infos (n + 1) ms) ≡ true → list_any is_launch_constructor ms ≡ true) → list_any is_launch_constructor (m ∷ ms) ≡ true
+constructor_by class m ms n true plain is e rest =
+    or_left (is_launch_constructor m) (list_any is_launch_constructor ms) (constructor_too (bytes_eq m.name CONSTRUCTOR.now) (bytes_eq m.descriptor TAKES_NOTHING.now) (not (is_static m)) _ (is_abstract_method m) (not_abstract class m plain) is)
+constructor_by class m ms n false plain is e rest = or_right (is_launch_constructor m) (list_any is_launch_constructor ms) (rest e)
+
+constructors_too : (class : ClassFile) (ms : List Member) (n : ℕ) → list_all (is_plain_method (declares_static class)) ms ≡ true → list_any of_classes.is_launch_constructor (method_infos n ms) ≡ true → list_any is_launch_constructor ms ≡ true
+constructors_too class [] n plain e = absurd cc
+constructors_too class (m ∷ ms) n plain e =
+    let parts = both_true (is_plain_method (declares_static class) m) (list_all (is_plain_method (declares_static class)) ms) plain in
+    constructor_by class m ms n (of_classes.is_launch_constructor (info_of n m)) parts.0 refl e (constructors_too class ms (n + 1) parts.1)
+
+made_too : (class : ClassFile) (n : ℕ) → IsFirstForm class
+    → (not (is_abstract_class class) && (not (is_interface class) && list_any of_classes.is_launch_constructor (method_infos n class.methods))) ≡ true → can_be_made class ≡ true
+made_too class n form e =
+    let one = both_true (not (is_abstract_class class)) _ e in
+    let two = both_true (not (is_interface class)) _ one.1 in
+    and_from (not (is_abstract_class class)) _ one.0 (and_from (not (is_interface class)) _ two.0 (constructors_too class class.methods n form.plain_methods two.1))
+
+launched_class : (class : ClassFile) (c : ℕ) → IsFirstForm class → is_launchable (alone class) c ≡ true → (c ≡ 11) × (can_be_made class ≡ true)
+launched_class class (suc (suc (suc (suc (suc (suc (suc (suc (suc (suc (suc zero))))))))))) form e =
+    (refl, made_too class 17 form (both_true (is_activity (alone class) 11) _ (both_true (nat_le BUILT_IN_COUNT 11) _ e).1).1)
+launched_class class (suc (suc (suc (suc (suc (suc (suc (suc (suc (suc (suc (suc c)))))))))))) form e =
+    absurd (let none : false ≡ true = (both_true (is_activity (alone class) (suc (suc (suc (suc (suc (suc (suc (suc (suc (suc (suc (suc c))))))))))))) false (both_true (nat_le BUILT_IN_COUNT (suc (suc (suc (suc (suc (suc (suc (suc (suc (suc (suc (suc c))))))))))))) _ e).1).1 in cc)
+launched_class class other form e = absurd (let none : false ≡ true = e in cc)
 
 -- ---- what is joined
 
@@ -374,7 +412,7 @@ original_is_null class field v o none at reference original =
       | inr constant ↦ absurd (let h : (let x : Option Constant = None in x) ≡ Some constant.0 = sym no_constant ∙ constant.1 in let g : ⊥ = cc in g)
     ]
 
-of_class : (files : List ClassFile) (s : State) (a number : ℕ) (o : Object) → ((c : ℕ) (fields : List (ℕ × Value)) → slice_get s.heap a ≡ Some (Instance c fields) → is_activity files c ≡ true → IsMade files c)
+of_class : (files : List ClassFile) (s : State) (a number : ℕ) (o : Object) → ((c : ClassId) (fields : List (FieldId × Value)) → slice_get s.heap a ≡ Some (Instance c fields) → is_activity files c.0 ≡ true → IsMade files c.0)
     → slice_get s.heap a ≡ Some o → IsOfClass o number → is_activity files number ≡ true → IsMade files number
 of_class files s a number (Instance c fields) made at exactly activity =
     subst (IsMade files) exactly (made c fields at (ap (is_activity files) exactly ∙ activity))
@@ -391,7 +429,7 @@ is_alarm class field number o form stored (inl launchable) at static_one =
     let place = field_at class field o at in
     let static_member : is_static place.member ≡ true = ap (λ (x : Owned). is_static x.member) (sym place.is) ∙ static_one in
     let alarm = filtered_at (is_alarming (is_stored class) class) class.fields field place.member place.stands (alarming class field place.member form stored place.stands static_member) in
-    let launched = launched_class class number launchable in
+    let launched = launched_class class number form launchable in
     record {
       place = alarm.0;
       alarm = place.member;
@@ -405,14 +443,14 @@ abbrev pub Explained : Type 0
 Explained = (lifecycle : Lifecycle) (files : List ClassFile) (s : State) (field : ℕ) (v : Value) → IsReachable lifecycle files s → slice_get s.statics field ≡ Some v → IsOriginal files field v ⊎ IsStoredInto files field
 
 abbrev pub Made : Type 0
-Made = (lifecycle : Lifecycle) (files : List ClassFile) (s : State) (address class : ℕ) (fields : List (ℕ × Value)) → IsReachable lifecycle files s
-    → slice_get s.heap address ≡ Some (Instance class fields) → is_activity files class ≡ true → IsMade files class
+Made = (lifecycle : Lifecycle) (files : List ClassFile) (s : State) (address : ℕ) (class : ClassId) (fields : List (FieldId × Value)) → IsReachable lifecycle files s
+    → slice_get s.heap address ≡ Some (Instance class fields) → is_activity files class.0 ≡ true → IsMade files class.0
 
 pub alarms_are_all : Explained → Made → (bytes : List ℕ) (class : ClassFile) → IsAccepted bytes class → AreAllAlarms class (alarms_of class)
 alarms_are_all explained made bytes class accepted lifecycle s field number run joined =
-    let o = joined.is_field.declared in
-    let is_made = of_class (alone class) s joined.address number joined.object (λ c fields. made lifecycle (alone class) s joined.address c fields run) joined.stands joined.exactly joined.is_activity_class in
-    elim (explained lifecycle (alone class) s field joined.value run joined.held) [
-      | inl original ↦ absurd (null_leads joined.leads (original_is_null class field joined.value o (without_constants bytes class accepted.stands) joined.is_field.numbered joined.is_field.reference original))
-      | inr stored ↦ is_alarm class field number o accepted.form stored is_made joined.is_field.numbered joined.is_field.static_one
+    let o = joined.holds.is_field.declared in
+    let is_made = of_class (alone class) s joined.holds.address number joined.holds.object (λ c fields. made lifecycle (alone class) s joined.holds.address c fields run) joined.holds.stands joined.holds.exactly joined.is_activity_class in
+    elim (explained lifecycle (alone class) s field joined.holds.value run joined.holds.held) [
+      | inl original ↦ absurd (null_leads joined.holds.leads (original_is_null class field joined.holds.value o (without_constants bytes class accepted.stands) joined.holds.is_field.numbered joined.holds.is_field.reference original))
+      | inr stored ↦ is_alarm class field number o accepted.form stored is_made joined.holds.is_field.numbered joined.holds.is_field.static_one
     ]

@@ -11,7 +11,8 @@ use Rattle.th_syntax.specs.declared.instr.Instr.{Instr}
 use Rattle.th_syntax.specs.declared.instr.Instr.TheVariants.{ALoad, Null, InvokeSpecial, PutStatic, Return}
 use Rattle.th_syntax.specs.Names.{is_unqualified, is_class_name, is_method_name, class_descriptor}
 use Rattle.th_syntax.specs.Flags.{has_flag, is_static, is_abstract_method, is_interface}
-use Rattle.th_syntax.specs.BuiltIn.{activity_class, is_built_in}
+use Rattle.th_base.specs.declared.built_in.TheConstants.{ACTIVITY}
+use Rattle.th_base.specs.BuiltIn.{is_built_in}
 use Rattle.th_syntax.specs.Refs.{is_same_ref}
 use Rattle.th_syntax.specs.Grammar.{member_ref, StandsFor}
 
@@ -29,7 +30,7 @@ declares_static class r = list_any (is_static_named class r) class.fields
 
 -- the constructor without parameters of Activity
 abbrev pub is_super_constructor : MemberRef → Bool
-is_super_constructor r = bytes_eq r.owner activity_class && (bytes_eq r.name (codes "<init>") && bytes_eq r.descriptor (codes "()V"))
+is_super_constructor r = bytes_eq r.owner ACTIVITY.now && (bytes_eq r.name (codes "<init>") && bytes_eq r.descriptor (codes "()V"))
 
 -- an instruction that first-form code has, where a test says which static fields there are
 abbrev pub is_plain_instr : (MemberRef → Bool) → Instr → Bool
@@ -65,7 +66,7 @@ is_plain_method is_field m =
 
 -- the file names Activity as the superclass
 abbrev pub extends_activity : ClassFile → Bool
-extends_activity class = option_map_or (λ s. bytes_eq s activity_class) class.super_name false
+extends_activity class = option_map_or (λ s. bytes_eq s ACTIVITY.now) class.super_name false
 
 -- a class, not an interface, whose superclass is Activity and whose name isn't built in
 abbrev pub is_plain_class : ClassFile → Bool

@@ -1,16 +1,18 @@
 -- The report of one class by its code alone: which static fields may keep an Activity alive, as far as stores and constructors show.
-use Rattle.std.specs.Prelude.{ℕ, ◌≡◌, ◌+◌, ◌&&◌, Bool, false, List, [], ◌∷◌, ◌++◌, codes, length, filter, if◌then◌else◌, Option, Some, None}
+use Rattle.std.specs.Prelude.{ℕ, ◌≡◌, ◌+◌, ◌&&◌, Bool, false, not, List, [], ◌∷◌, ◌++◌, codes, length, filter, if◌then◌else◌, Option, Some, None}
 use Rattle.std.specs.List.{list_any}
 use Rattle.std.specs.Option.{option_map_or}
+use Rattle.std.specs.Str.{bytes_eq}
 use Rattle.std.specs.Fmt.{decimal}
 use Rattle.th_syntax.specs.declared.class_file.ClassFile.{ClassFile}
 use Rattle.th_syntax.specs.declared.class_file.Member.{Member}
 use Rattle.th_syntax.specs.declared.instr.MemberRef.{MemberRef}
 use Rattle.th_syntax.specs.declared.instr.Instr.{Instr}
 use Rattle.th_syntax.specs.declared.instr.Instr.TheVariants.{PutStatic}
-use Rattle.th_syntax.specs.Flags.{is_static}
+use Rattle.th_base.specs.declared.built_in.TheConstants.{CONSTRUCTOR}
+use Rattle.th_base.specs.declared.handler.TheConstants.{TAKES_NOTHING}
+use Rattle.th_syntax.specs.Flags.{is_static, is_abstract_method, is_interface, is_abstract_class}
 use Rattle.th_syntax.specs.Refs.{is_same_ref}
-use Rattle.th_syntax.specs.Harness.{can_be_made}
 use Rattle.th_top.specs.FirstForm.{ref_to}
 use Rattle.th_top.specs.declared.report.Alarms.{Alarms}
 
@@ -34,6 +36,14 @@ is_stored class r = list_any (method_stores r) class.methods
 -- a static field that some code stores into
 abbrev pub is_alarming : (MemberRef → Bool) → ClassFile → Member → Bool
 is_alarming stored class f = is_static f && stored (ref_to class f)
+
+-- a constructor without parameters that a launch can call
+abbrev pub is_launch_constructor : Member → Bool
+is_launch_constructor m = bytes_eq m.name CONSTRUCTOR.now && (bytes_eq m.descriptor TAKES_NOTHING.now && (not (is_static m) && not (is_abstract_method m)))
+
+-- a class of which there are objects, and that declares such a constructor
+abbrev pub can_be_made : ClassFile → Bool
+can_be_made class = not (is_abstract_class class) && (not (is_interface class) && list_any is_launch_constructor class.methods)
 
 -- the fields of the coarse alarms, in order: the static fields that are stored into, where an object of the class can be launched
 abbrev pub alarms_of : ClassFile → List Member
@@ -64,5 +74,5 @@ report_of class = report_with class (alarms_of class)
 
 -- lines and their number are those of these alarms
 pub record AreAlarms (class : ClassFile) (fields : List Member) (found : Alarms) : Type 0 where
-  pub lines : found.lines ≡ alarm_lines class 1 fields
+  pub lines : found.lines.items ≡ alarm_lines class 1 fields
   pub count : found.count ≡ length fields

@@ -3,7 +3,7 @@ use Rattle.std.specs.Prelude.{ℕ, ◌≡◌, List, [], ◌∷◌, Option, Some,
 use Rattle.th_base.specs.declared.lifecycle.Lifecycle.{Lifecycle}
 use Rattle.th_syntax.specs.declared.class_file.ClassFile.{ClassFile}
 use Rattle.th_syntax.specs.declared.class_file.Member.{Member}
-use Rattle.th_syntax.specs.Machine.{State}
+use Rattle.th_syntax.specs.declared.machine.State.{State}
 use Rattle.th_syntax.specs.Program.{all_classes, fields_of}
 use Rattle.th_syntax.specs.Run.{IsReachable}
 use Rattle.th_syntax.specs.Joined.{IsJoined}

@@ -39,14 +39,14 @@ fn refused(alloc: Global, name: &str) -> Result<Text, AllocError>
     ensures { IfOk result (λ line. line ≡ refused_line name.now) }
 {
     let line = format!(in alloc; "refused E99 NotBuilt {name} - 0\n")?;
-    Ok(Text::from_vec(line.into_bytes()))
+    Text::from_vec(line.into_bytes())
 }
 
 fn read_fault(alloc: Global, name: &str) -> Result<Text, AllocError>
     ensures { IfOk result (λ line. line ≡ read_fault_line name.now) }
 {
     let line = format!(in alloc; "read fault {name}\n")?;
-    Ok(Text::from_vec(line.into_bytes()))
+    Text::from_vec(line.into_bytes())
 }
 
 // The report of an accepted class, and the status that it gives.
@@ -64,7 +64,7 @@ fn decide_class(alloc: Global, class: &ClassFile) -> Result<Decided, AllocError>
     Ok(Decided {
         status,
         text: report.text,
-        line: Text::new(alloc),
+        line: Text::new(alloc)?,
     })
 }
 
@@ -76,7 +76,7 @@ fn decide_bytes(alloc: Global, name: &str, bytes: &[u8]) -> Result<Decided, Allo
         Some(class) => decide_class(alloc, &class),
         None => Ok(Decided {
             status: Status::Refused,
-            text: Text::new(alloc),
+            text: Text::new(alloc)?,
             line: refused(alloc, name)?,
         }),
     }
@@ -96,7 +96,7 @@ fn decide_file<F: Files>(alloc: Global, name: &str, files: &mut F) -> Result<Dec
         Err(FetchFault::Memory) => Err(AllocError),
         Err(FetchFault::Missing | FetchFault::Failed) => Ok(Decided {
             status: Status::ReadFault,
-            text: Text::new(alloc),
+            text: Text::new(alloc)?,
             line: read_fault(alloc, name)?,
         }),
     }
@@ -119,7 +119,7 @@ pub fn decide<F: Files>(
         Ok(name) => decide_file(alloc, name, files),
         Err(fault) => Ok(Decided {
             status: Status::Usage,
-            text: Text::new(alloc),
+            text: Text::new(alloc)?,
             line: usage_line(alloc, fault)?,
         }),
     }

@@ -4,7 +4,7 @@ ghost use Rattle.std.specs.List.{list_all};
 ghost use Rattle.std.specs.Option.{option_map_or};
 ghost use Rattle.std.specs.HashSet.{contains};
 ghost use Rattle.th_syntax.specs.Names as names;
-ghost use Rattle.th_syntax.specs.BuiltIn as built_in;
+ghost use Rattle.th_base.specs.BuiltIn as built_in;
 ghost use Rattle.th_syntax.specs.Refs.{is_same_ref};
 ghost use Rattle.th_syntax.specs.declared.instr.MemberRef.{MemberRef};
 ghost use Rattle.th_top.specs.FirstForm as form;

@@ -4,7 +4,7 @@ ghost use Rattle.std.specs.List.{AllByRecursion};
 ghost use Rattle.th_base.specs.declared.lifecycle.Lifecycle.{Lifecycle};
 ghost use Rattle.th_syntax.specs.declared.class_file.ClassFile.{ClassFile};
 ghost use Rattle.th_syntax.specs.Grammar.{StandsFor};
-ghost use Rattle.th_syntax.specs.Machine.{State};
+ghost use Rattle.th_syntax.specs.declared.machine.State.{State};
 ghost use Rattle.th_syntax.specs.Run.{IsReachable};
 ghost use Rattle.th_syntax.specs.Facts.{IsAtInstruction};
 ghost use Rattle.th_top.specs.FirstForm.{IsAccepted};

@@ -5,7 +5,6 @@ ghost use Rattle.std.specs.List.{list_any};
 ghost use Rattle.std.specs.HashSet.{contains};
 ghost use Rattle.th_syntax.specs.declared.instr.MemberRef.{MemberRef};
 ghost use Rattle.th_syntax.specs.Refs.{is_same_ref};
-ghost use Rattle.th_syntax.specs.Harness as harness;
 ghost use Rattle.th_top.specs.Report as report;
 
 use crate::members::ref_to;
@@ -17,7 +16,7 @@ use th_syntax::{
 };
 
 fn is_launch_constructor(method: &Member) -> bool
-    ensures { result ≡ harness.is_launch_constructor method.now }
+    ensures { result ≡ report.is_launch_constructor method.now }
 {
     method.name.as_bytes() == b"<init>".as_slice()
         && method.descriptor.as_bytes() == b"()V".as_slice()
@@ -26,13 +25,13 @@ fn is_launch_constructor(method: &Member) -> bool
 }
 
 fn has_launch_constructor(methods: &[Member]) -> bool
-    ensures { result ≡ list_any harness.is_launch_constructor methods.now }
+    ensures { result ≡ list_any report.is_launch_constructor methods.now }
 {
     methods.iter().any(|method| is_launch_constructor(method))
 }
 
 fn is_launched(class: &ClassFile) -> bool
-    ensures { result ≡ harness.can_be_made class.now }
+    ensures { result ≡ report.can_be_made class.now }
 {
     !has_flag(class.access, ACC_ABSTRACT)
         && !has_flag(class.access, ACC_INTERFACE)
@@ -97,25 +96,25 @@ fn alarm_line(
     class: &ClassFile,
     number: usize,
     field: &Member,
-) -> Result<Text, AllocError>
-    ensures { IfOk result (λ line. line ≡ report.alarm_line class.now number field.now) }
+) -> Result<Vec<u8>, AllocError>
+    ensures { IfOk result (λ line. line.items ≡ report.alarm_line class.now number field.now) }
 {
-    let mut line = Text::from_vec(format!(in alloc; "alarm {number} survives ")?.into_bytes());
-    line.push_bytes(class.name.as_bytes())?;
-    line.push_bytes(b".")?;
-    line.push_bytes(field.name.as_bytes())?;
-    line.push_bytes(b":")?;
-    line.push_bytes(field.descriptor.as_bytes())?;
-    line.push_bytes(b" -> ")?;
-    line.push_bytes(class.name.as_bytes())?;
-    line.push_bytes(b"\n")?;
+    let mut line = format!(in alloc; "alarm {number} survives ")?.into_bytes();
+    line.extend_from_slice(class.name.as_bytes())?;
+    line.extend_from_slice(b".")?;
+    line.extend_from_slice(field.name.as_bytes())?;
+    line.extend_from_slice(b":")?;
+    line.extend_from_slice(field.descriptor.as_bytes())?;
+    line.extend_from_slice(b" -> ")?;
+    line.extend_from_slice(class.name.as_bytes())?;
+    line.extend_from_slice(b"\n")?;
     Ok(line)
 }
 
 // The lines of the alarms, and how many they are.
 #[derive(Debug, Drop)]
 struct Alarms {
-    lines: Text,
+    lines: Vec<u8>,
     count: usize,
 }
 
@@ -127,12 +126,12 @@ fn alarms_from(
 ) -> Result<Alarms, AllocError>
     ensures { IfOk result (report.AreAlarms class.now (filter (report.is_alarming (contains is_same_ref stored.now) class.now) class.now.fields)) }
 {
-    let mut lines = Text::new(alloc);
+    let mut lines = Vec::new(alloc);
     let mut count = 0;
     for field in class.fields.as_slice() {
         if is_alarming(alloc, stored, class, field)? {
             count += 1;
-            lines.push_bytes(alarm_line(alloc, class, count, field)?.as_bytes())?;
+            lines.extend_from_slice(alarm_line(alloc, class, count, field)?.as_slice())?;
         }
     }
     Ok(Alarms { lines, count })
@@ -143,7 +142,7 @@ fn all_alarms(alloc: Global, class: &ClassFile) -> Result<Alarms, AllocError>
 {
     if !is_launched(class) {
         return Ok(Alarms {
-            lines: Text::new(alloc),
+            lines: Vec::new(alloc),
             count: 0,
         });
     }
@@ -158,11 +157,11 @@ pub struct Report {
     pub surviving: usize,
 }
 
-fn count_line(alloc: Global, label: &str, count: usize) -> Result<Text, AllocError>
-    ensures { IfOk result (λ line. line ≡ report.count_line label.now count) }
+fn count_line(alloc: Global, label: &str, count: usize) -> Result<Vec<u8>, AllocError>
+    ensures { IfOk result (λ line. line.items ≡ report.count_line label.now count) }
 {
     let line = format!(in alloc; "{label}{count}\n")?;
-    Ok(Text::from_vec(line.into_bytes()))
+    Ok(line.into_bytes())
 }
 
 /// The report of a class.
@@ -171,13 +170,13 @@ pub fn make_report(alloc: Global, class: &ClassFile) -> Result<Report, AllocErro
     ensures surviving { IfOk result (λ r. r.surviving ≡ length (report.alarms_of class.now)) }
 {
     let alarms = all_alarms(alloc, class)?;
-    let mut text = Text::from_slice(alloc, b"classes 1\nhandlers not followed 0\n")?;
-    text.push_bytes(count_line(alloc, "alarms ", alarms.count)?.as_bytes())?;
-    text.push_bytes(alarms.lines.as_bytes())?;
-    text.push_bytes(b"filtered 0\n")?;
-    text.push_bytes(count_line(alloc, "surviving ", alarms.count)?.as_bytes())?;
+    let mut text = Vec::from_slice(alloc, b"classes 1\nhandlers not followed 0\n")?;
+    text.extend_from_slice(count_line(alloc, "alarms ", alarms.count)?.as_slice())?;
+    text.extend_from_slice(alarms.lines.as_slice())?;
+    text.extend_from_slice(b"filtered 0\n")?;
+    text.extend_from_slice(count_line(alloc, "surviving ", alarms.count)?.as_slice())?;
     Ok(Report {
-        text,
+        text: Text::from_vec(text)?,
         surviving: alarms.count,
     })
 }

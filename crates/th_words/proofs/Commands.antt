@@ -3,7 +3,7 @@ use Rattle.std.proofs.Common.{◌≡◌, true, List, ◌∷◌, map, Option, Som
 use Rattle.std.specs.Prelude.{find}
 use Rattle.std.specs.Option.{ok_or, option_map_or}
 use Rattle.std.specs.Str.{bytes_eq}
-use Rattle.th_words.specs.Pieces.{Text}
+use Rattle.th_words.specs.Pieces.{Word}
 use Rattle.th_words.specs.Table.{CommandRow, table}
 use Rattle.th_words.specs.Reading.{command_in, command_of}
 use Rattle.th_words.specs.declared.command.Command.{Command}
@@ -16,7 +16,7 @@ only_bad None fault e = cc
 only_bad (Some command) fault e = cc
 
 -- words that begin with the name of a row have no other fault, where the table has the row under its name
-pub known_fault : {S : Type 0} (t : S → Text) (words : List S) (word : S) (rest : List S) (text : Text) (row : CommandRow) (fault : UsageFault)
+pub known_fault : {S : Type 0} (t : S → Word) (words : List S) (word : S) (rest : List S) (text : Word) (row : CommandRow) (fault : UsageFault)
     → words ≡ word ∷ rest → text ≡ t word → bytes_eq text row.name ≡ true → find (λ r. bytes_eq r.name row.name) table ≡ Some row
     → command_of (map t words) ≡ Err fault → fault ≡ BadWords
 known_fault t words word rest text row fault first is named has e =

@@ -6,14 +6,14 @@ use Rattle.std.specs.Char.{is_ascii_digit}
 use Rattle.std.specs.List.{list_all}
 use Rattle.std.specs.Str.{all_ascii_digits}
 use Rattle.std.specs.Str.Parse.{digits_value, ParsesUnsigned}
-use Rattle.th_words.specs.Pieces.{Text}
+use Rattle.th_words.specs.Pieces.{Word}
 use Rattle.th_words.specs.Values.{is_number}
 
 -- the decimal numerals are the texts of digits
 numerals : IsNumeralModel (λ ds. all_ascii_digits ds ≡ true) (digits_value 10)
 numerals = numerals_by_value _ tells_all_ascii_digits
 
-same_digits : (text : Text) → list_all is_ascii_digit text ≡ all_ascii_digits text
+same_digits : (text : Word) → list_all is_ascii_digit text ≡ all_ascii_digits text
 same_digits [] = refl
 same_digits (x ∷ xs) = ap (λ b. is_ascii_digit x && b) (same_digits xs)
 
@@ -25,7 +25,7 @@ parts false b c e = cc
 at_least : (m n : ℕ) → nat_le m n ≡ true → m ≤ n
 at_least m n e = grind (arith, nat_tests)
 
-pub number_parses : {E : Type 0} → (text : Text) (r : Result ℕ E) → is_number text ≡ true → ParsesUnsigned 32 10 text r → r ≡ Ok (digits_value 10 text)
+pub number_parses : {E : Type 0} → (text : Word) (r : Result ℕ E) → is_number text ≡ true → ParsesUnsigned 32 10 text r → r ≡ Ok (digits_value 10 text)
 number_parses text r h p =
     let k = parts (list_all is_ascii_digit text) (nat_le 1 (length text)) (nat_le (length text) 9) h in
     let digits = sym (same_digits text) ∙ k.0 in

@@ -3,7 +3,7 @@ use Rattle.std.proofs.Common.{◌≡◌, ◌&&◌, Bool, true, false, cond, List
 use Rattle.std.specs.Prelude.{option_map, option_and_then}
 use Rattle.std.specs.List.{list_all, list_any}
 use Rattle.std.specs.Str.{bytes_eq}
-use Rattle.th_words.specs.Pieces.{Text, Piece, setting, operand, is_plain, option_word, option_named, pieces_from, pieces_of, sets_each_once, words_of, is_allowed, ArePieces}
+use Rattle.th_words.specs.Pieces.{Word, Piece, setting, operand, is_plain, option_word, option_named, pieces_from, pieces_of, sets_each_once, words_of, is_allowed, ArePieces}
 use Rattle.th_words.proofs.WellFormed.{by_test, by_option, mapped_some, named_word, plain_not_option}
 use Rattle.th_words.proofs.Arguments.{same_text, equal_texts}
 use Rattle.th_words.proofs.WalkedWords.{named_listed, from_pieces}
@@ -13,11 +13,11 @@ both true b e = (refl, e)
 both false b e = cc
 
 -- a plain word is none of the options, and an option is the one that it names
-plain_unnamed : (names : List Text) (word : Text) → is_plain word ≡ true → option_named names word ≡ None
+plain_unnamed : (names : List Word) (word : Word) → is_plain word ≡ true → option_named names word ≡ None
 plain_unnamed [] word h = refl
 plain_unnamed (n ∷ names) word h = rw (plain_not_option word n h) (plain_unnamed names word h)
 
-option_found : (names : List Text) (name : Text) → list_any (λ n. bytes_eq n name) names ≡ true → option_named names (option_word name) ≡ Some name
+option_found : (names : List Word) (name : Word) → list_any (λ n. bytes_eq n name) names ≡ true → option_named names (option_word name) ≡ Some name
 option_found [] name h = cc
 option_found (n ∷ names) name h = by_test (bytes_eq name n)
     (λ t. let same = equal_texts name n t in rw t (ap Some (sym same)))
@@ -25,12 +25,12 @@ option_found (n ∷ names) name h = by_test (bytes_eq name n)
     (λ t. let same = ap (λ m. bytes_eq m n) (equal_texts n name t) in let k = same_text n in cc)
     (λ g. rw g at h))))
 
-module _ (names : List Text) where
+module _ (names : List Word) where
   abbrev are_allowed : List Piece → Bool
   are_allowed = list_all (is_allowed names)
 
   mutual
-    written : (words : List Text) (ps : List Piece) → pieces_from names None words ≡ Some ps → (words_of ps ≡ words) × (are_allowed ps ≡ true)
+    written : (words : List Word) (ps : List Piece) → pieces_from names None words ≡ Some ps → (words_of ps ≡ words) × (are_allowed ps ≡ true)
     written [] ps e =
         let same : [] ≡ ps = cc in
         subst (λ (q : List Piece). (words_of q ≡ []) × (are_allowed q ≡ true)) same (refl, refl)
@@ -45,7 +45,7 @@ module _ (names : List Text) where
         let h = written_after words name (named_listed names word name q) ps (rw q at e) in
         (h.0 ∙ ap (λ w. w ∷ words) (sym (named_word names word name q)), h.1))
 
-    written_after : (words : List Text) (name : Text) → list_any (λ n. bytes_eq n name) names ≡ true → (ps : List Piece) → pieces_from names (Some name) words ≡ Some ps
+    written_after : (words : List Word) (name : Word) → list_any (λ n. bytes_eq n name) names ≡ true → (ps : List Piece) → pieces_from names (Some name) words ≡ Some ps
         → (words_of ps ≡ option_word name ∷ words) × (are_allowed ps ≡ true)
     written_after [] name l ps e = cc
     written_after (value ∷ words) name l ps e = by_test (is_plain value)
@@ -67,7 +67,7 @@ module _ (names : List Text) where
       let k = both (is_plain word) (are_allowed ps) h in
       rw (plain_unnamed names word k.0, k.0) (ap (option_map (λ pieces. operand word ∷ pieces)) (read_back ps k.1))
 
-  pub pieces_written : (words : List Text) (ps : List Piece) → pieces_of names words ≡ Some ps → (words_of ps ≡ words) × ArePieces names ps
+  pub pieces_written : (words : List Word) (ps : List Piece) → pieces_of names words ≡ Some ps → (words_of ps ≡ words) × ArePieces names ps
   pieces_written words ps e =
       let k = from_pieces names words ps e in
       let h = written words ps k.0 in

@@ -6,7 +6,7 @@ use Rattle.std.specs.Str.{bytes_eq}
 use Rattle.std.specs.Str.Parse.{digits_value}
 use Rattle.th_base.specs.declared.lifecycle.Lifecycle.{Lifecycle}
 use Rattle.th_base.specs.declared.lifecycle.Lifecycle.TheVariants.{Any, Chart}
-use Rattle.th_words.specs.Pieces.{Text}
+use Rattle.th_words.specs.Pieces.{Word}
 
 -- what the value of an option must be, and what stands in its place where the option isn't given
 pub data Kind : Type 0 where
@@ -22,24 +22,24 @@ pub data Kind : Type 0 where
 -- what an option stands for
 pub data Value : Type 0 where
   number : ℕ → Value
-  file : Option Text → Value
+  file : Option Word → Value
   lifecycle : Lifecycle → Value
 
 -- 1 to 9 decimal digits
-abbrev pub is_number : Text → Bool
+abbrev pub is_number : Word → Bool
 is_number text = list_all is_ascii_digit text && (nat_le 1 (length text) && nat_le (length text) 9)
 
 -- the number that a text writes, if it lies in the range
-abbrev pub number_of : ℕ → ℕ → Text → Option ℕ
+abbrev pub number_of : ℕ → ℕ → Word → Option ℕ
 number_of lowest highest text =
     if is_number text && (nat_le lowest (digits_value 10 text) && nat_le (digits_value 10 text) highest) then Some (digits_value 10 text) else None
 
 -- the lifecycle of this name
-abbrev pub lifecycle_of : Text → Option Lifecycle
+abbrev pub lifecycle_of : Word → Option Lifecycle
 lifecycle_of text = if bytes_eq text (codes "any") then Some Any else (if bytes_eq text (codes "chart") then Some Chart else None)
 
 -- what an option of this kind stands for, given or not. None where the text is no value of the kind
-abbrev pub value_of : Kind → Option Text → Option Value
+abbrev pub value_of : Kind → Option Word → Option Value
 value_of (number_in lowest highest default) None = Some (number default)
 value_of (number_in lowest highest default) (Some text) = option_map (λ n. number n) (number_of lowest highest text)
 value_of optional_file text = Some (file text)

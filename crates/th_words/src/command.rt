@@ -1,4 +1,6 @@
 // The commands, and what may be wrong with the words.
+use std::error::Error;
+use std::fmt;
 use th_base::{Lifecycle, Name, Seq};
 
 /// A command, with the values of its options, defaults filled in, and its operands.
@@ -40,3 +42,15 @@ pub enum UsageFault {
     /// The words after the command break its rules.
     BadWords,
 }
+
+impl fmt::Display for UsageFault {
+    fn fmt<W: fmt::Write>(&self, f: &mut fmt::Formatter<W>) -> fmt::Result {
+        f.write_str(match self {
+            UsageFault::NoCommand => "no command",
+            UsageFault::UnknownCommand => "unknown command",
+            UsageFault::BadWords => "bad words",
+        })
+    }
+}
+
+impl Error for UsageFault {}

@@ -14,7 +14,7 @@ use clap::{Arg, ArgAction, ArgMatches, Command, Error};
 use std::alloc::{AllocError, Global};
 use th_base::Fail;
 
-/// An option with one value, for `clap`.
+// An option with one value, for `clap`.
 fn option_arg<'a>(alloc: Global, name: &'a str) -> Arg<'a>
     ensures rule { rule_of result ≡ option_rule name.entry.now }
     ensures local { result.global ≡ false }
@@ -22,7 +22,7 @@ fn option_arg<'a>(alloc: Global, name: &'a str) -> Arg<'a>
     Arg::new(alloc, name).long(name).action(ArgAction::Set)
 }
 
-/// A command with options of these names and with operands, for `clap`.
+// A command with options of these names and with operands, for `clap`.
 fn told<'a>(alloc: Global, names: &[&'a str]) -> Result<Command<'a>, AllocError>
     ensures { IfOk result (λ command. app_of command ≡ app_told (map (λ n. n.now) names.entry.now)) }
 {
@@ -35,7 +35,7 @@ fn told<'a>(alloc: Global, names: &[&'a str]) -> Result<Command<'a>, AllocError>
     command.arg(Arg::new(alloc, OPERANDS).action(ArgAction::Append))
 }
 
-/// What `clap` makes of the words, of a command with options of these names.
+// What `clap` makes of the words, of a command with options of these names.
 fn parsed<'a>(
     alloc: Global,
     names: &[&'a str],

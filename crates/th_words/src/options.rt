@@ -10,6 +10,23 @@ use clap::ArgMatches;
 use std::alloc::{AllocError, Global};
 use th_base::{Lifecycle, Name, Seq};
 
+// The range of each option that takes a number, and what it is where it isn't given. A budget and
+// fuel begin at 0.
+pub(crate) const MOST_BUDGET: u32 = 50_000;
+
+pub(crate) const DEFAULT_BUDGET: u32 = 2_000;
+
+pub(crate) const LEAST_WORKERS: u32 = 1;
+
+pub(crate) const MOST_WORKERS: u32 = 16;
+
+pub(crate) const DEFAULT_WORKERS: u32 = 1;
+
+pub(crate) const MOST_FUEL: u32 = 10_000_000;
+
+pub(crate) const DEFAULT_FUEL: u32 = 1_000_000;
+
+// The names of the options.
 pub(crate) const BUDGET: &str = "budget";
 
 pub(crate) const WORKERS: &str = "workers";
@@ -29,21 +46,26 @@ pub(crate) const OPERANDS: &str = "operands";
 pub(crate) fn budget(matches: &ArgMatches<'_>) -> Option<u32>
     ensures { option_map (λ n. number n) result ≡ value_of budget_option.kind (first_value (found_of matches.now) budget_option.name) }
 {
-    number_given(matches.get_str(BUDGET), 0, 50_000, 2_000)
+    number_given(matches.get_str(BUDGET), 0, MOST_BUDGET, DEFAULT_BUDGET)
 }
 
 /// `--workers`: how many workers search.
 pub(crate) fn workers(matches: &ArgMatches<'_>) -> Option<u32>
     ensures { option_map (λ n. number n) result ≡ value_of workers_option.kind (first_value (found_of matches.now) workers_option.name) }
 {
-    number_given(matches.get_str(WORKERS), 1, 16, 1)
+    number_given(
+        matches.get_str(WORKERS),
+        LEAST_WORKERS,
+        MOST_WORKERS,
+        DEFAULT_WORKERS,
+    )
 }
 
-/// `--fuel`: how many instructions one event may run.
+/// `--fuel`: how many steps all events together may make.
 pub(crate) fn fuel(matches: &ArgMatches<'_>) -> Option<u32>
     ensures { option_map (λ n. number n) result ≡ value_of fuel_option.kind (first_value (found_of matches.now) fuel_option.name) }
 {
-    number_given(matches.get_str(FUEL), 0, 10_000_000, 1_000_000)
+    number_given(matches.get_str(FUEL), 0, MOST_FUEL, DEFAULT_FUEL)
 }
 
 /// `--lifecycle`: the order in which handlers may be called.

@@ -12,10 +12,10 @@ use clap::ArgMatches;
 use std::alloc::Global;
 use th_base::{Fail, Name};
 
-/// The words break a command's rules.
+// The words break a command's rules.
 const BAD_WORDS: Fail<UsageFault> = Fail::Refused(UsageFault::BadWords);
 
-/// The command `check` from the values that `clap` found.
+// The command `check` from the values that `clap` found.
 fn check_from(alloc: Global, matches: &ArgMatches<'_>) -> Result<Command, Fail<UsageFault>>
     ensures { IsAnswer (command_from check_row (first_value (found_of matches.now)) (operands_found (found_of matches.now))) result }
 {
@@ -36,7 +36,7 @@ fn check_from(alloc: Global, matches: &ArgMatches<'_>) -> Result<Command, Fail<U
     })
 }
 
-/// The command `run` from the values that `clap` found.
+// The command `run` from the values that `clap` found.
 fn run_from(alloc: Global, matches: &ArgMatches<'_>) -> Result<Command, Fail<UsageFault>>
     ensures { IsAnswer (command_from run_row (first_value (found_of matches.now)) (operands_found (found_of matches.now))) result }
 {
@@ -56,7 +56,7 @@ fn run_from(alloc: Global, matches: &ArgMatches<'_>) -> Result<Command, Fail<Usa
     })
 }
 
-/// The command `check` from the words after its name.
+// The command `check` from the words after its name.
 fn read_check(alloc: Global, words: &[String]) -> Result<Command, Fail<UsageFault>>
     ensures { IsAnswer (command_in check_row (map string_bytes words.now)) result }
 {
@@ -66,7 +66,7 @@ fn read_check(alloc: Global, words: &[String]) -> Result<Command, Fail<UsageFaul
     }
 }
 
-/// The command `run` from the words after its name.
+// The command `run` from the words after its name.
 fn read_run(alloc: Global, words: &[String]) -> Result<Command, Fail<UsageFault>>
     ensures { IsAnswer (command_in run_row (map string_bytes words.now)) result }
 {

@@ -4,7 +4,7 @@ ghost use Rattle.std.specs.Str.{bytes_eq};
 ghost use Rattle.std.specs.List.{list_any};
 ghost use Rattle.th_words.specs.Pieces.{is_plain, option_word, pieces_of};
 
-/// Whether a word may be a value or an operand.
+// Whether a word may be a value or an operand.
 fn may_be_value(word: &str) -> bool
     ensures { result ≡ is_plain word.now }
 {
@@ -14,7 +14,7 @@ fn may_be_value(word: &str) -> bool
     }
 }
 
-/// Whether a word is the option of this name.
+// Whether a word is the option of this name.
 fn is_option_word(word: &str, name: &str) -> bool
     ensures { result ≡ bytes_eq word.now (option_word name.now) }
 {
@@ -24,14 +24,14 @@ fn is_option_word(word: &str, name: &str) -> bool
     }
 }
 
-/// Whether a word is an option of one of these names.
+// Whether a word is an option of one of these names.
 fn is_option(names: &[&str], word: &str) -> bool
     ensures { result ≡ list_any (λ name. bytes_eq word.now (option_word name.now)) names.now }
 {
     names.iter().any(|name| is_option_word(word, name))
 }
 
-/// Whether the word at a place stands again after it.
+// Whether the word at a place stands again after it.
 fn stands_again(words: &[String], at: usize, word: &str) -> bool
     requires { at < length words.now }
     ensures { result ≡ list_any (λ other. bytes_eq (string_bytes other) word.now) (drop (at + 1) words.now) }

@@ -3,7 +3,7 @@ use crate::*;
 use std::alloc::{AllocError, Global};
 use std::process::Abort;
 use std::test::Fail as TestFail;
-use th_base::{Fail, Name, Seq};
+use th_base::{Name, Seq};
 
 fn append(text: &mut String, files: &Seq<Name>) -> Result<(), AllocError> {
     for file in files.as_slice() {
@@ -48,13 +48,7 @@ fn shown(alloc: Global, command: &Command) -> Result<String, AllocError> {
 fn answer(alloc: Global, words: &[String]) -> Result<String, AllocError> {
     match read_words(alloc, words) {
         Ok(command) => shown(alloc, &command),
-        Err(Fail::Refused(UsageFault::NoCommand)) => String::from_str(alloc, "no command"),
-        Err(Fail::Refused(UsageFault::UnknownCommand)) => String::from_str(
-            alloc,
-            "unknown command",
-        ),
-        Err(Fail::Refused(UsageFault::BadWords)) => String::from_str(alloc, "bad words"),
-        Err(Fail::NoMemory) => String::from_str(alloc, "no memory"),
+        Err(fail) => format!(in alloc; "{fail}"),
     }
 }
 

@@ -8,14 +8,14 @@ ghost use Rattle.th_words.specs.Values.{is_number, number_of, value_of, number_i
 use std::alloc::{AllocError, Global};
 use th_base::{Lifecycle, Name, Seq};
 
-/// Whether a text has decimal digits alone.
+// Whether a text has decimal digits alone.
 fn has_digits_alone(text: &str) -> bool
     ensures { result ≡ list_all is_ascii_digit text.now }
 {
     text.bytes().all(|byte| byte.is_ascii_digit())
 }
 
-/// Whether a text is 1 to 9 decimal digits.
+// Whether a text is 1 to 9 decimal digits.
 fn writes_number(text: &str) -> bool
     ensures { result ≡ is_number text.now }
 {
@@ -23,7 +23,7 @@ fn writes_number(text: &str) -> bool
     has_digits_alone(text) && 1 <= length && length <= 9
 }
 
-/// The number that a text of 1 to 9 decimal digits writes.
+// The number that a text of 1 to 9 decimal digits writes.
 fn number_written(text: &str) -> u32
     requires { is_number text.now ≡ true }
     ensures { result ≡ digits_value 10 text.now }
@@ -34,7 +34,7 @@ fn number_written(text: &str) -> u32
     value
 }
 
-/// The number that a text of 1 to 9 decimal digits writes, where it lies in the range.
+// The number that a text of 1 to 9 decimal digits writes, where it lies in the range.
 fn number_within(text: &str, lowest: u32, highest: u32) -> Option<u32>
     ensures { result ≡ number_of lowest highest text.now }
 {

@@ -39,7 +39,7 @@ congruent_value : (w n : ℕ) (b : Bool) (z : ℤ) → IsCongruent w (pos n) z �
 congruent_value w n true z c = c
 congruent_value w n false z c = let e = c.1 in let t = times-sum (2 ^ w) c.0 (negsuc 0) in (c.0 -ℤ pos 1, omega (arith, ints))
 
-low_bits-congruent : (w : ℕ) (z : ℤ) → IsCongruent w (pos (low_bits w z)) z
+pub low_bits-congruent : (w : ℕ) (z : ℤ) → IsCongruent w (pos (low_bits w z)) z
 unfolding low_bits
 low_bits-congruent w (pos n) = (neg_ℤ (pos (n / 2 ^ w)), omega (arith, ints, times-negation (2 ^ w) (pos (n / 2 ^ w)), div-add-mod' n (2 ^ w)))
 low_bits-congruent w (negsuc n) = let s = mod-lt n (pow_pos w) in (pos (n / 2 ^ w + 1), omega (arith, ints, div-add-mod' n (2 ^ w)))
@@ -92,3 +92,14 @@ difference_one_carry w a b p f g = wrapped_one_carry w (a -ℤ b) p (omega (arit
 
 pub negation_one_carry : (w : ℕ) (a : ℤ) → 0 < w → IsInSignedRange w a → HasOneCarry w (neg_ℤ a) (wrapped_value w (neg_ℤ a))
 negation_one_carry w a p f = wrapped_one_carry w (neg_ℤ a) p (omega (arith, ints, twice w p)) (omega (arith, ints, twice w p))
+
+-- ---- narrow types
+
+pub byte_in_range : (a : ℤ) → (neg_ℤ (pos 128) ≤ℤ wrapped_value 8 a) × (wrapped_value 8 a ≤ℤ pos 127)
+byte_in_range a = let r = wrapped_in_range 8 a (omega arith) in let low = r.low in let high = r.high in (low, omega (arith, ints, high))
+
+pub short_in_range : (a : ℤ) → (neg_ℤ (pos 32768) ≤ℤ wrapped_value 16 a) × (wrapped_value 16 a ≤ℤ pos 32767)
+short_in_range a = let r = wrapped_in_range 16 a (omega arith) in let low = r.low in let high = r.high in (low, omega (arith, ints, high))
+
+pub char_in_range : (a : ℤ) → (pos 0 ≤ℤ pos (low_bits 16 a)) × (pos (low_bits 16 a) ≤ℤ pos 65535)
+char_in_range a = let below : low_bits 16 a < 65536 = low_bits-below 16 a in (omega (arith, ints), omega (arith, ints))

@@ -1,6 +1,6 @@
 //! What the definitions of the operations mean.
-ghost use Rattle.std.specs.Prelude.{◌≡◌, ◌-◌, ◌^◌, ◌<◌, ◌≤◌, ◌≢◌, ℕ, ℤ, pos, negsuc, ◌+ℤ◌, ◌-ℤ◌, ◌*ℤ◌, neg_ℤ, int_div, int_rem, unsigned_abs, Some};
-ghost use Rattle.th_wrap.specs.Arithmetic.{sum_of, difference_of, negation_of, quotient_of, remainder_of};
+ghost use Rattle.std.specs.Prelude.{◌≡◌, ◌-◌, ◌^◌, ◌<◌, ◌≤◌, ◌≢◌, ℕ, ℤ, pos, negsuc, ◌+ℤ◌, ◌-ℤ◌, ◌*ℤ◌, ◌≤ℤ◌, neg_ℤ, int_div, int_rem, unsigned_abs, Some};
+ghost use Rattle.th_wrap.specs.Arithmetic.{sum_of, difference_of, negation_of, quotient_of, remainder_of, narrowing_of, char_of};
 ghost use Rattle.th_wrap.specs.TwosComplement.{IsInSignedRange, IsCongruent, wrapped_value};
 ghost use Rattle.th_wrap.specs.Carries.{HasOneCarry};
 
@@ -28,4 +28,14 @@ pub fn divides_toward_zero()
     ensures least_int { quotient_of 32 (neg_ℤ (pos (2 ^ 31))) (negsuc 0) ≡ Some (neg_ℤ (pos (2 ^ 31))) }
     ensures least_long { quotient_of 64 (neg_ℤ (pos (2 ^ 63))) (negsuc 0) ≡ Some (neg_ℤ (pos (2 ^ 63))) }
     ensures no_remainder { (a : ℤ) → remainder_of a (negsuc 0) ≡ Some (pos 0) }
+{}
+
+/// A narrowed number lies in the range of its type: from -128 to 127 for a byte, from -32768 to
+/// 32767 for a short, from 0 to 65535 for a char; the char differs from the number by a multiple of
+/// 2^16.
+pub fn narrows_into_range()
+    ensures byte { (a : ℤ) → (neg_ℤ (pos 128) ≤ℤ narrowing_of 8 a) × (narrowing_of 8 a ≤ℤ pos 127) }
+    ensures short { (a : ℤ) → (neg_ℤ (pos 32768) ≤ℤ narrowing_of 16 a) × (narrowing_of 16 a ≤ℤ pos 32767) }
+    ensures char { (a : ℤ) → (pos 0 ≤ℤ char_of a) × (char_of a ≤ℤ pos 65535) }
+    ensures char_bits { (a : ℤ) → IsCongruent 16 (char_of a) a }
 {}

@@ -1,12 +1,17 @@
 // What the definitions of class files keep: functions that take nothing and do nothing, whose contracts hold.
-ghost use Rattle.std.specs.Prelude.{◌≡◌, ◌↔◌, ◌⊎◌, ℕ, List, Some, Result, Ok, Err, IsTrue};
+ghost use Rattle.std.specs.Prelude.{◌≡◌, ◌↔◌, ◌⊎◌, ◌<◌, ℕ, List, [], ◌∷◌, Some, Result, Ok, Err, IsTrue};
+ghost use Rattle.std.specs.List.{All};
 ghost use Rattle.th_syntax.specs.declared.class_file.ClassFile.{ClassFile};
+ghost use Rattle.th_syntax.specs.declared.instr.Instr.{Instr};
 ghost use Rattle.th_syntax.specs.declared.refusal.Flaw.{Flaw};
+ghost use Rattle.th_syntax.specs.Flaws.{Ascend, IsFirst};
 ghost use Rattle.th_syntax.specs.Forms.{Form, Stands, IsFlawed, read};
 ghost use Rattle.th_syntax.specs.ClassBytes.{Pool, RawClass, RawCode};
 ghost use Rattle.th_syntax.specs.CodeBytes.{Spelled};
 ghost use Rattle.th_syntax.specs.Descriptors.{FieldType, MethodType, IsFieldDescriptor, IsMethodDescriptor, field_type_of, method_type_of};
-ghost use Rattle.th_syntax.specs.ClassGrammar.{IsClassFile, are_bytes};
+ghost use Rattle.th_syntax.specs.Decoding.{AreSpelled, instrs_in, flaws_in};
+ghost use Rattle.th_syntax.specs.Checks.{second_pass, third_pass, fourth_pass};
+ghost use Rattle.th_syntax.specs.ClassGrammar.{IsClassFile, IsWhole, are_bytes};
 ghost use Rattle.th_syntax.specs.FirstFlaw.{FirstFlaw};
 ghost use Rattle.th_syntax.specs.Reader.{reading};
 
@@ -20,6 +25,11 @@ pub fn one_reading()
 /// Bytes stand for at most one class file.
 pub fn one_value()
     ensures { (bytes : List ℕ) (v w : ClassFile) → IsClassFile bytes v → IsClassFile bytes w → v ≡ w }
+{}
+
+/// Each entry of a class file is a byte.
+pub fn entries_are_bytes()
+    ensures { (bytes : List ℕ) (v : ClassFile) → IsClassFile bytes v → All (λ b. b < 256) bytes }
 {}
 
 /// Bytes have at most one first flaw.
@@ -53,7 +63,9 @@ pub fn class_reading()
 /// The same of the forms of a Code attribute's content and of an instruction.
 pub fn code_reading()
     ensures content { (form : Form RawCode) (at : ℕ) (bytes : List ℕ) (value : RawCode) (behind : ℕ) (others : List ℕ) → (read form at bytes ≡ Ok (value, behind, others)) ↔ Stands form at bytes value behind others }
+    ensures content_flaw { (form : Form RawCode) (at : ℕ) (bytes : List ℕ) (flaw : Flaw) → (read form at bytes ≡ Err flaw) ↔ IsFlawed form at bytes flaw }
     ensures instruction { (form : Form Spelled) (at : ℕ) (bytes : List ℕ) (value : Spelled) (behind : ℕ) (others : List ℕ) → (read form at bytes ≡ Ok (value, behind, others)) ↔ Stands form at bytes value behind others }
+    ensures instruction_flaw { (form : Form Spelled) (at : ℕ) (bytes : List ℕ) (flaw : Flaw) → (read form at bytes ≡ Err flaw) ↔ IsFlawed form at bytes flaw }
 {}
 
 /// The descriptors that spell a field's type, and no others, are read, and as that type.
@@ -64,4 +76,20 @@ pub fn field_descriptors()
 /// The descriptors that spell a method's parameters and result, and no others, are read, and as these.
 pub fn method_descriptors()
     ensures { (bytes : List ℕ) (method : MethodType) → (method_type_of bytes ≡ Some method) ↔ IsMethodDescriptor bytes method }
+{}
+
+/// Code without flaws is the spellings of its instructions, one behind the other.
+pub fn code_is_spelled()
+    ensures spelled { (pool : Pool) (max_locals at : ℕ) (bytes : List ℕ) → flaws_in pool max_locals at bytes ≡ [] → AreSpelled pool 0 bytes (instrs_in pool bytes) }
+    ensures one { (pool : Pool) (bytes : List ℕ) (instrs : List (ℕ × Instr)) → AreSpelled pool 0 bytes instrs → instrs_in pool bytes ≡ instrs }
+{}
+
+/// The flaws that each pass finds in a class whose items are whole stand in ascending order, and so do
+/// those of a code array. Of flaws that ascend the one at the head is the first.
+pub fn flaws_ascend()
+    ensures indices { (bytes : List ℕ) (class : RawClass) → IsWhole bytes class → Ascend (second_pass class) }
+    ensures names { (bytes : List ℕ) (class : RawClass) → IsWhole bytes class → Ascend (third_pass class) }
+    ensures content { (bytes : List ℕ) (class : RawClass) → IsWhole bytes class → Ascend (fourth_pass class) }
+    ensures code { (pool : Pool) (max_locals at : ℕ) (bytes : List ℕ) → Ascend (flaws_in pool max_locals at bytes) }
+    ensures first { (flaw : Flaw) (flaws : List Flaw) → Ascend (flaw ∷ flaws) → IsFirst (flaw ∷ flaws) flaw }
 {}

@@ -9,7 +9,7 @@ abbrev pub invariant-loop-field : goal.invariant-loop-field
 invariant-loop-field l =
     let alarming = is_alarming (contains is_same_ref l.stored) l.class in
     record {
-      lines : l.lines ++ alarm_lines l.class (l.count + 1) (filter alarming (drop l.field-index l.field-items)) ≡ alarm_lines l.class 1 (filter alarming l.field-items);
+      lines : l.lines.items ++ alarm_lines l.class (l.count + 1) (filter alarming (drop l.field-index l.field-items)) ≡ alarm_lines l.class 1 (filter alarming l.field-items);
       count : l.count + length (filter alarming (drop l.field-index l.field-items)) ≡ length (filter alarming l.field-items);
       within : l.count ≤ l.field-index;
     }

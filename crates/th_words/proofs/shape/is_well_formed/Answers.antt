@@ -1,18 +1,18 @@
 use Rattle.std.proofs.Common.{◌≡◌, ◌∙◌, ◌+◌, ap, sym, drop, map, string_bytes, true, false, arith, Bool, not, refl, List, ℕ, String, Global, Bor, []}
 use Rattle.std.proofs.Math.ListN.{drop_of_length-le}
-use Rattle.th_words.specs.Pieces.{Text}
+use Rattle.th_words.specs.Pieces.{Word}
 use Rattle.th_words.proofs.WellFormed.{passes, passes-pieces, option_here, option_twice, value_here, operand_here}
 use Rattle.th_words.proofs.shape.is_well_formed.Goals as goal
 use Rattle.th_words.proofs.shape.is_well_formed.Goals.{then-not-waits+then-is_option+else-stands_again, else-not-waits+then-may_be_value, else-not-waits-via-then-not-waits+else-is_option, else-not-waits-via-else-not-waits}
 
 -- the names and the words as texts
-abbrev known : List (Bor Text) → List Text
+abbrev known : List (Bor Word) → List Word
 known = map (λ n. n.now)
 
-abbrev texts : List (String Global) → List Text
+abbrev texts : List (String Global) → List Word
 texts = map string_bytes
 
-walked : (names : List (Bor Text)) (words : List (String Global)) (i : ℕ) (waits b r : Bool) → passes (known names) false (texts words) ≡ passes (known names) waits (texts (drop i words)) → waits ≡ b
+walked : (names : List (Bor Word)) (words : List (String Global)) (i : ℕ) (waits b r : Bool) → passes (known names) false (texts words) ≡ passes (known names) waits (texts (drop i words)) → waits ≡ b
     → passes (known names) b (texts (drop i words)) ≡ r → passes (known names) false (texts words) ≡ r
 walked names words i waits b r e z h = e ∙ ap (λ x. passes (known names) x (texts (drop i words))) z ∙ h
 
@@ -67,7 +67,7 @@ loop-i-preserved c =
           ]
     ]
 
-none_left : (names : List Text) (b : Bool) → passes names b [] ≡ not b
+none_left : (names : List Word) (b : Bool) → passes names b [] ≡ not b
 none_left names true = refl
 none_left names false = refl
 

@@ -4,14 +4,14 @@ use Rattle.std.proofs.Common.{sym, ap, ◌∙◌}
 use Rattle.th_base.specs.IdSet.{has}
 use Rattle.th_incl.proofs.news.News.sort.Goals as goal
 
-pub invariant_of-self : goal.invariant_of-self
-invariant_of-self c = λ e. rw (dedup_is _ _ _ c.dedup.ensures.filtered) (IsAscending-dedup _ c.sort_unstable.ensures.sorted)
+pub invariant_of-self-2 : goal.invariant_of-self-2
+invariant_of-self-2 c = λ e. rw (dedup_is _ _ _ c.dedup.ensures.filtered) (IsAscending-dedup _ c.in_ok-sort.ensures.sorted)
 
-pub returns-then-not-self-clause-members : goal.returns-then-not-self-clause-members
-returns-then-not-self-clause-members c = λ x.
+pub returns-clause-members : goal.returns-clause-members
+returns-clause-members c = λ x.
     ap (λ l. has l x) (dedup_is _ _ _ c.dedup.ensures.filtered)
-    ∙ same-dedup _ _ c.sort_unstable.ensures.permutation x
+    ∙ same-dedup _ _ c.in_ok-sort.ensures.permutation x
     ∙ ap (λ l. has l x) c.self.view_is
 
-pub returns-then-not-self-clause-ascending : goal.returns-then-not-self-clause-ascending
-returns-then-not-self-clause-ascending c = rw (dedup_is _ _ _ c.dedup.ensures.filtered) (IsAscending-dedup _ c.sort_unstable.ensures.sorted)
+pub returns-clause-ascending : goal.returns-clause-ascending
+returns-clause-ascending c = rw (dedup_is _ _ _ c.dedup.ensures.filtered) (IsAscending-dedup _ c.in_ok-sort.ensures.sorted)

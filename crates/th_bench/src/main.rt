@@ -1,0 +1,63 @@
+//! Workloads to be timed.
+//!
+//! The first word names a workload, the second its size; the answer is a line with the workload's
+//! name and what it counted, or for `stores` a class file. There is no clock in it: the script
+//! `bench` times the built program. `all` runs each workload at the size that is given.
+#![tactic(auto)]
+
+mod classes;
+mod sets;
+mod stores;
+
+use std::alloc::{AllocError, Global};
+use std::rt::Env;
+use std::{env, io};
+
+// What a workload counted; none where no workload has the name.
+fn counted(alloc: Global, name: &str, size: u32) -> Result<Option<u64>, AllocError> {
+    match name {
+        "merges" => Ok(Some(sets::merges(alloc, size)?)),
+        "fields" => Ok(Some(classes::fields(alloc, size)?)),
+        "subclasses" => Ok(Some(classes::subclasses(alloc, size)?)),
+        "repeats" => Ok(Some(classes::repeats(alloc, size)?)),
+        _ => Ok(None),
+    }
+}
+
+fn print_counted(rt: &(impl Print + AllocGlobal), name: &str, size: u32) -> io::Result<()> {
+    match counted(rt.alloc(), name, size)? {
+        Some(count) => println!(rt; "{name} {count}"),
+        None => println!(rt; "no workload {name}"),
+    }
+}
+
+fn run(rt: &(impl Print + AllocGlobal), name: &str, size: u32) -> io::Result<()> {
+    match name {
+        "stores" => {
+            let file = stores::class_file(rt.alloc(), size)?;
+            io::Write::write_all(&mut io::writer(rt), file.as_slice())
+        }
+        "all" => {
+            for each in ["merges", "fields", "subclasses", "repeats"] {
+                print_counted(rt, each, size)?;
+            }
+            Ok(())
+        }
+        _ => print_counted(rt, name, size),
+    }
+}
+
+fn words_of(rt: &(impl Env + AllocGlobal)) -> io::Result<Vec<String>> {
+    Ok(env::args(rt)?.skip(1).collect(rt.alloc())?)
+}
+
+fn main(rt: HostRuntime) -> io::Result<()> {
+    let words = words_of(&rt)?;
+    match words.as_slice() {
+        [name, size] => match size.as_str().parse::<u32>() {
+            Ok(size) => run(&rt, name.as_str(), size),
+            Err(_) => println!(rt; "no size"),
+        },
+        _ => println!(rt; "a workload and a size"),
+    }
+}
