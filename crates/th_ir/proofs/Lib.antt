@@ -5,8 +5,8 @@ pub mod Changes
 pub mod Covering
 pub mod HarnessKinds
 pub mod Heaps
-pub mod Listings
 pub mod ListedFacts
+pub mod Listings
 pub mod Nests
 pub mod New
 pub mod Plain
