@@ -15,6 +15,7 @@ pub mod Realised
 pub mod Runs
 pub mod Slots
 pub mod TestedFacts
+pub mod TestedGraph
 pub mod TestedPrograms
 pub mod TestedSites
 pub mod TestedStatements
@@ -22,6 +23,7 @@ pub mod Touches
 pub mod WholeCalls
 pub mod WorkedChartedForm
 pub mod WorkedChartedRun
+pub mod WorkedGraphs
 pub mod WorkedHandlers
 pub mod WorkedInitialisingFacts
 pub mod WorkedInitialisingForm
