@@ -3,9 +3,10 @@ pub mod Apart
 pub mod Applied
 pub mod Changes
 pub mod Covering
+pub mod HarnessKinds
 pub mod Heaps
-pub mod Listings
 pub mod ListedFacts
+pub mod Listings
 pub mod Nests
 pub mod New
 pub mod Plain
@@ -14,6 +15,7 @@ pub mod Realised
 pub mod Runs
 pub mod Slots
 pub mod TestedFacts
+pub mod TestedGraph
 pub mod TestedPrograms
 pub mod TestedSites
 pub mod TestedStatements
@@ -21,6 +23,7 @@ pub mod Touches
 pub mod WholeCalls
 pub mod WorkedChartedForm
 pub mod WorkedChartedRun
+pub mod WorkedGraphs
 pub mod WorkedHandlers
 pub mod WorkedInitialisingFacts
 pub mod WorkedInitialisingForm

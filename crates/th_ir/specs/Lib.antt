@@ -9,6 +9,7 @@ pub mod Fresh
 pub mod Good
 pub mod Graph
 pub mod Harness
+pub mod HarnessKinds
 pub mod Machine
 pub mod Nesting
 pub mod Plan
@@ -22,6 +23,7 @@ pub mod Unchanged
 pub mod WellFormed
 pub mod Worked
 pub mod WorkedCharted
+pub mod WorkedGraph
 pub mod WorkedInitialising
 pub mod WorkedNaming
 pub mod WorkedReceivers

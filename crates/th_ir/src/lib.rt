@@ -12,6 +12,7 @@
 mod facts;
 mod field;
 mod graph;
+mod harness;
 pub mod laws;
 mod plan;
 mod program;
@@ -20,6 +21,7 @@ mod stmt;
 pub use facts::{Facts, Mods};
 pub use field::{FieldKind, LENGTH, STAGE};
 pub use graph::{Alarm, Edge, Graph, Producer};
+pub use harness::{HarnessKind, harness_kind};
 pub use plan::{MOST_ALARMS, MOST_EDGES, MOST_NODES, MOST_PAIRS, MOST_REGISTERS, MOST_SITES, Plan};
 pub use program::{Method, Node, Place, RegProgram, Site};
 pub use stmt::{CallKind, Condition, Stmt};
