@@ -31,6 +31,7 @@ pub mod WorkedInitialisingRun
 pub mod WorkedNamingFacts
 pub mod WorkedNamingForm
 pub mod WorkedNamingRun
+pub mod WorkedProducers
 pub mod WorkedReceiversFacts
 pub mod WorkedReceiversForm
 pub mod WorkedReceiversRun
