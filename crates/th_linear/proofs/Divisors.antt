@@ -5,7 +5,7 @@ use Rattle.std.specs.Int.RustNames.{unsigned_abs, int_div, int_rem}
 use Rattle.std.proofs.lemmas.Nat.Gcd.{dvd-zero, dvd_trans}
 use Rattle.std.proofs.lemmas.Int.{ints, unsigned_abs-mul}
 use Rattle.th_linear.specs.Normal.{IsContent, DividesAll, scaled}
-use Rattle.th_linear.specs.Forms.{AreTerms}
+use Rattle.th_linear.specs.Forms.{AreTerms, Small}
 use native.Mathlib.Nat.{pos_of_dvd_of_pos, mul-div_cancel', le_of_dvd, one-dvd, dvd_of_mod-eq-zero, mod-eq-zero_of_dvd}
 use Rattle.std.proofs.Common.{◌/◌, neg_ℤ, suc, zero, ◌^◌}
 use Rattle.std.proofs.lemmas.List.{take_more, take_more_set, drop-set-lt, drop-drop, map-append, get_or-drop}
@@ -124,3 +124,8 @@ divides_front d (suc i) (t ∷ ts) a = (a.0, divides_front d i ts a.1)
 
 pub coprime_front : (i : ℕ) (ts : List (ℕ × ℤ)) → IsContent 1 (take i ts) → IsContent 1 ts
 coprime_front i ts c = (each_one ts, (λ d a. c.1 d (divides_front d i ts a)))
+
+pub small_term : (low i : ℕ) (ts : List (ℕ × ℤ)) (d : ℕ × ℤ) → AreTerms low ts → i < length ts → Small (get_or ts i d).1
+small_term low i [] d h lt = absurd (omega arith)
+small_term low zero (t ∷ ts) d h lt = h.2
+small_term low (suc i) (t ∷ ts) d h lt = small_term (t.0 + 1) i ts d h.3 (omega arith)

@@ -156,3 +156,10 @@ going_end p l q r out a b low g e f = record {
         (sym (g.left_rest v ge) ∙ ap (coef v) e) (sym (g.right_rest v ge) ∙ ap (coef v) f))
   ];
 }
+
+pub nonzero : (z : ℤ) → (z ≡ pos 0 → ⊥) → 0 < unsigned_abs z
+nonzero z n = grind (arith, ints)
+
+pub pushed_some : (ts : List (ℕ × ℤ)) (t : ℕ × ℤ) → ts ++ t ∷ [] ≡ [] → ⊥
+pushed_some [] t e = let n : (t ∷ []) ≡ [] = e in cc
+pushed_some (u ∷ us) t e = let n : (u ∷ (us ++ t ∷ [])) ≡ [] = e in cc

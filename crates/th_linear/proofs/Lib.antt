@@ -11,3 +11,4 @@ pub mod Greatest
 pub mod Normals
 pub mod Sums
 pub mod Totals
+pub mod Judging

@@ -132,7 +132,7 @@ not_whole_Eq f g h = rw (false_from_ne_true (divides g (unsigned_abs f.constant)
 not_whole_Ne : (f : Form) (g : ℕ) → ((g ∣ unsigned_abs f.constant) → ⊥) → True ≡ divided_by Ne g f
 not_whole_Ne f g h = rw (false_from_ne_true (divides g (unsigned_abs f.constant)) (λ e. h ((decides_divides g (unsigned_abs f.constant)).0 e))) refl
 
-decides_stands : (rel : Rel) (z : ℤ) → Decides (stands rel z) (Stands rel z)
+pub decides_stands : (rel : Rel) (z : ℤ) → Decides (stands rel z) (Stands rel z)
 decides_stands Eq z = Decides-int_eq z (pos 0)
 decides_stands Le z = ((λ e. grind (arith, ints)), (λ h. grind (arith, ints)))
 decides_stands Ne z = Decides-not (int_eq z (pos 0)) (Decides-int_eq z (pos 0))

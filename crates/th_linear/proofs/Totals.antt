@@ -1,5 +1,5 @@
 -- Terms in any order, added up variable by variable.
-use Rattle.std.proofs.Common.{◌≡◌, ◌≢◌, ℕ, zero, suc, ◌+◌, ◌*◌, ◌<◌, ◌≤◌, ◌^◌, ℤ, pos, neg_ℤ, ◌+ℤ◌, ◌*ℤ◌, Bool, List, [], ◌∷◌, ◌++◌, length, get_or, take, drop, map, arith, refl, ap, sym, ◌∙◌, subst, cond, eqb, inl, inr, true, false, ◌&&◌, Option, Some, None, IsSome, IfSome, ◌↔◌}
+use Rattle.std.proofs.Common.{◌≡◌, ◌≢◌, ℕ, suc, ◌+◌, ◌*◌, ◌<◌, ◌≤◌, ◌^◌, ℤ, pos, neg_ℤ, ◌+ℤ◌, ◌*ℤ◌, Bool, List, [], ◌∷◌, ◌++◌, length, get_or, take, drop, arith, refl, ap, sym, ◌∙◌, subst, cond, eqb, inl, inr, true, false, ◌&&◌, Option, Some, None, IsSome, IfSome, ◌↔◌}
 use Rattle.std.specs.Prelude.{All, sum_by}
 use Rattle.std.specs.Int.RustNames.{unsigned_abs}
 use Rattle.std.specs.Ordering.{int_eq}
@@ -11,10 +11,10 @@ use Rattle.std.proofs.lemmas.List.Sorted.{sum_by-IsPermutation}
 use Rattle.std.proofs.lemmas.List.Sums.{sum_by-cons}
 use Rattle.std.proofs.lemmas.List.Elements.{All-nil, All-cons}
 use Rattle.std.proofs.lemmas.List.{drop_more, drop_all, drop-drop, take_more, map-append, get_or_past}
-use Rattle.th_linear.specs.Forms.{Form, IsForm, AreTerms, Small, Holds, value, coef}
-use Rattle.th_linear.specs.Summed.{term_before, added, summed, is_small, all_small}
-use Rattle.th_linear.specs.Gathered.{AreSmall, total, gathered, gathered_form, IsGathered, IsTooLargeTotal, Gathers, Renames, name_of, renamed_terms, renamed_form}
-use Rattle.th_linear.specs.Laws.{IsFact, OneGathering, NoLargeGathering, OrderIsFree, RenamingComposes, SameNamesStay}
+use Rattle.th_linear.specs.Forms.{Form, IsForm, Small, value, coef}
+use Rattle.th_linear.specs.Summed.{term_before, is_small, all_small}
+use Rattle.th_linear.specs.Gathered.{AreSmall, total, gathered, gathered_form, IsGathered, IsTooLargeTotal, Gathers, Renames, name_of, renamed_terms}
+use Rattle.th_linear.specs.Laws.{IsFact, OrderIsFree, RenamingComposes, SameNamesStay}
 use Rattle.th_linear.specs.declared.fact.Rel.{Rel}
 use Rattle.th_linear.proofs.Going.{Below}
 use Rattle.th_linear.proofs.Divisors.{same_at}
@@ -178,11 +178,6 @@ pub renamed_more : (names : List ℕ) (ts : List (ℕ × ℤ)) (i n : ℕ) (d : 
 renamed_more names ts i n d lt e =
     ap (λ (m : ℕ). renamed_terms names (take i ts) ++ (m, (get_or ts i d).1) ∷ []) e
     ∙ sym (ap (renamed_terms names) (take_more ts i d lt) ∙ map-append _ (take i ts) (get_or ts i d ∷ []))
-
-pub small_term : (low i : ℕ) (ts : List (ℕ × ℤ)) (d : ℕ × ℤ) → AreTerms low ts → i < length ts → Small (get_or ts i d).1
-small_term low i [] d h lt = absurd (omega arith)
-small_term low zero (t ∷ ts) d h lt = h.2
-small_term low (suc i) (t ∷ ts) d h lt = small_term (t.0 + 1) i ts d h.3 (omega arith)
 
 pub renames : (names : List ℕ) (f : Form) (o : Option Form) → Small f.constant → Gathers (renamed_terms names f.coefs) f.constant f.rel o → Renames names f o
 renames names f (Some r) small g = record { value = λ s. g.value s ∙ value_renamed names f.coefs s; coef = g.coef; constant = g.constant; rel = g.rel }

@@ -1,5 +1,5 @@
 -- Sums of multiples of two facts.
-use Rattle.std.specs.Prelude.{◌≡◌, ℕ, ◌+◌, ◌<◌, ◌≤◌, ℤ, pos, ◌+ℤ◌, ◌*ℤ◌, List, length, ◌⊎◌, ◌↔◌, Option, MatchOption}
+use Rattle.std.specs.Prelude.{◌≡◌, ◌≢◌, ℕ, ◌+◌, ◌<◌, ◌≤◌, Bool, IsTrue, ℤ, pos, ◌+ℤ◌, ◌*ℤ◌, List, [], length, ◌⊎◌, ◌↔◌, Option, MatchOption}
 use Rattle.th_linear.specs.Forms.{Form, AreTerms, Holds, value, coef, Small}
 use Rattle.th_linear.specs.declared.fact.Rel.{Rel}
 
@@ -50,3 +50,7 @@ pub record Steps (p : ℤ) (a : List (ℕ × ℤ)) (q : ℤ) (b : List (ℕ × �
   pub right : AreTerms (v + 1) ys
   pub low : (low : ℕ) → AreTerms low a → AreTerms low b → low ≤ v
   pub shorter : length xs + length ys < length a + length b
+
+-- whether p a + q b has terms
+abbrev pub HasMixed : ℤ → List (ℕ × ℤ) → ℤ → List (ℕ × ℤ) → Bool → Type 0
+HasMixed p a q b some = (r : List (ℕ × ℤ)) × AreMixed p a q b r × (IsTrue some ↔ (r ≢ []))

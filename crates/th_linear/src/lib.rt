@@ -21,6 +21,6 @@ mod mixture;
 mod tests;
 
 pub use division::{NormalForm, normal};
-pub use divisor::gcd;
+pub use divisor::{gcd, magnitude};
 pub use fact::{Lin, MAGNITUDE_LIMIT, Rel};
-pub use mixture::{combine, substitute};
+pub use mixture::{Judgement, combine, judge, substitute};

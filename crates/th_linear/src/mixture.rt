@@ -3,10 +3,12 @@ ghost use Rattle.std.specs.Prelude.{◌≡◌, ◌≤◌, ◌^◌, ◌<ℤ◌, �
 ghost use Rattle.std.specs.Prelude.{MatchOption, IfOk, IfSome};
 ghost use Rattle.std.specs.Int.RustNames.{unsigned_abs};
 ghost use Rattle.th_linear.specs.Forms.{AreTerms, Small, coef};
-ghost use Rattle.th_linear.specs.Mixed.{mixed, IsSum, FollowsFrom, SaySame, Steps, AreMixed, HasLarge};
+ghost use Rattle.th_linear.specs.Mixed.{mixed, IsSum, FollowsFrom, SaySame, Steps, AreMixed, HasLarge, HasMixed};
+ghost use Rattle.th_linear.specs.Divided.{normal_of};
+ghost use Rattle.th_linear.specs.Judged.{judged_as, judgement_of};
 ghost use Rattle.th_linear.specs.Summed.{mixed_form, combined, substituted};
 
-use crate::fact::is_small;
+use crate::fact::{is_small, stands};
 use crate::{Lin, MAGNITUDE_LIMIT, Rel};
 use std::alloc::{AllocError, Global};
 
@@ -23,6 +25,49 @@ pub fn combine(alloc: Global, a: &Lin, p: i128, b: &Lin, q: i128) -> Result<Opti
     ensures follows { IfOk result (λ o. IfSome o (FollowsFrom a.now b.now)) }
 {
     mix_facts(alloc, p, a, q, b)
+}
+
+/// What a sum of two inequalities says by itself.
+#[derive(Clone, Copy, Debug, PartialEq, Eq)]
+pub enum Judgement {
+    /// A magnitude of it reaches 2^62.
+    TooLarge,
+    /// No assignment of integers satisfies it.
+    False,
+    /// Any other.
+    Possible,
+}
+
+/// What the inequality p a + q b says by itself. It isn't made, so this takes no memory.
+pub fn judge(a: &Lin, p: i128, b: &Lin, q: i128) -> Judgement
+    requires a { a.now.rel ≡ Rel.Le }
+    requires b { b.now.rel ≡ Rel.Le }
+    requires p_low { pos 0 <ℤ p }
+    requires p_high { unsigned_abs p ≤ MAGNITUDE_LIMIT }
+    requires q_low { pos 0 <ℤ q }
+    requires q_high { unsigned_abs q ≤ MAGNITUDE_LIMIT }
+    ensures { result ≡ judgement_of (combined a.now p b.now q) }
+{
+    let constant = mix(p, a.constant, q, b.constant);
+    if !is_small(constant) {
+        return Judgement::TooLarge;
+    }
+    match has_terms(p, a.coefs.as_slice(), q, b.coefs.as_slice()) {
+        None => Judgement::TooLarge,
+        Some(true) => Judgement::Possible,
+        Some(false) => judge_alone(constant),
+    }
+}
+
+// What an inequality of this constant alone says.
+fn judge_alone(constant: i128) -> Judgement
+    ensures { result ≡ judged_as (normal_of (record { coefs = []; constant = constant; rel = Rel.Le })) }
+{
+    if stands(Rel::Le, constant) {
+        Judgement::Possible
+    } else {
+        Judgement::False
+    }
 }
 
 /// The fact f with the variable taken out by an equation that has it with coefficient 1 or -1: f
@@ -106,6 +151,31 @@ fn mix_terms(
         }
     }
     Ok(Some(out))
+}
+
+// Whether p left + q right has terms, or `None` where a coefficient reaches 2^62.
+fn has_terms(p: i128, left: &[(u32, i128)], q: i128, right: &[(u32, i128)]) -> Option<bool>
+    requires p { unsigned_abs p ≤ MAGNITUDE_LIMIT }
+    requires left { AreTerms 0 left.now }
+    requires q { unsigned_abs q ≤ MAGNITUDE_LIMIT }
+    requires right { AreTerms 0 right.now }
+    ensures { MatchOption result (HasLarge p left.now q right.now)
+        (λ some. HasMixed p left.now q right.now some) }
+{
+    let mut some = false;
+    let mut a = left;
+    let mut b = right;
+    while let Some(next) = next_step(p, a, q, b) {
+        a = next.left;
+        b = next.right;
+        if next.coefficient != 0 {
+            if !is_small(next.coefficient) {
+                return None;
+            }
+            some = true;
+        }
+    }
+    Some(some)
 }
 
 // The least variable of two lists of terms, its coefficient in the sum, and what is left of both.

@@ -1,7 +1,6 @@
 -- A fact is found by its key.
-use Rattle.std.proofs.Common.{◌≡◌, ℕ, zero, suc, ◌+◌, ◌-◌, ◌*◌, ◌<◌, ◌≤◌, ◌^◌, ℤ, List, [], ◌∷◌, ◌++◌, length, get_or, slice_get, arith, refl, ap, sym, ◌∙◌, subst, Bool, true, false, Option, Some, None, inl, inr, length-append}
+use Rattle.std.proofs.Common.{◌≡◌, ℕ, zero, suc, ◌+◌, ◌*◌, ◌<◌, ◌≤◌, ◌^◌, ℤ, List, [], ◌∷◌, ◌++◌, length, get_or, slice_get, arith, refl, ap, sym, ◌∙◌, subst, true, false, Some, None, inl, inr, length-append}
 use Rattle.std.specs.List.{insert}
-use Rattle.std.specs.Int.RustNames.{unsigned_abs}
 use Rattle.std.proofs.Math.Nat.{mul-le-mul}
 use Rattle.std.proofs.lemmas.Bool.{cases_Bool, cases_lt, cases_order, false_from_ne_true}
 use Rattle.std.proofs.lemmas.List.{get_or_append_left, get_or_default}
@@ -13,7 +12,7 @@ use Rattle.th_linear.specs.Forms.{Form, AreTerms, Small}
 use Rattle.th_pure.specs.declared.distinct.Entry.{Entry}
 use Rattle.th_pure.specs.Elimination.{same_fact, has_fact}
 use Rattle.th_pure.specs.Distinct.{key_of, IsIndexed}
-use Rattle.th_pure.proofs.Repeats.{decides_fact, has_first, has_later}
+use Rattle.th_pure.proofs.Repeats.{decides_fact, has_first}
 
 -- ---- keys
 

@@ -1,23 +1,14 @@
 -- Inequalities stay inequalities.
-use Rattle.std.proofs.Common.{◌≡◌, ℕ, ◌/◌, ◌==◌, ℤ, pos, List, [], ◌∷◌, ◌++◌, map, refl, ap, sym, ◌∙◌, inl, inr, ◌&&◌, Option, Some, None, IfSome, subst, Result, Ok, Err, IfOk}
+use Rattle.std.proofs.Common.{◌≡◌, ℕ, ◌==◌, ℤ, List, [], ◌∷◌, ◌++◌, refl, sym, inl, inr, subst, Result, Ok, Err, IfOk}
 use Rattle.std.proofs.lemmas.Bool.{cases_Bool}
 use Rattle.std.proofs.lemmas.List.Elements.{All-nil, All-cons, All-head, All-tail, All-append, All-push, All-same}
-use Rattle.std.specs.Int.RustNames.{unsigned_abs}
 use Rattle.std.specs.declared.alloc.AllocError.{AllocError}
-use Rattle.th_linear.specs.Forms.{Form, coef}
-use Rattle.th_linear.specs.Divided.{normal_of, normal_by, divided_by, content_of, stands, gcd_of}
-use Rattle.th_linear.specs.Mixed.{mixed}
-use Rattle.th_linear.specs.Summed.{mixed_form, mixed_terms, is_small, all_small, combined}
+use Rattle.th_linear.specs.Forms.{Form}
+use Rattle.th_linear.specs.Divided.{normal_of, normal_by, divided_by, content_of, stands}
 use Rattle.th_linear.specs.declared.fact.Rel.{Rel}
 use Rattle.th_linear.specs.declared.fact.Rel.TheVariants.{Eq, Le, Ne}
-use Rattle.th_linear.specs.declared.division.NormalForm.{NormalForm}
-use Rattle.th_linear.specs.declared.division.NormalForm.TheVariants.{True, False, Fact}
 use Rattle.th_pure.specs.declared.range.Range.{Range}
-use Rattle.th_pure.specs.declared.facts.Outcome.{Outcome}
-use Rattle.th_pure.specs.declared.facts.Outcome.TheVariants.{Refuted, Undecided, Remaining}
-use Rattle.th_pure.specs.Outcomes.{and_then, facts_before}
-use Rattle.th_pure.specs.Division.{judged, divided_all}
-use Rattle.th_pure.specs.Substitution.{all_made, range_facts, low_fact, high_fact}
+use Rattle.th_pure.specs.Substitution.{range_facts, low_fact, high_fact}
 use Rattle.th_pure.specs.Bounds.{inequalities, inequalities_of, at_most, at_least, all_range_facts}
 use Rattle.th_pure.specs.Elimination.{AreInequalities, has_fact, with_fact}
 use Rattle.th_pure.specs.Early.{LeavesInequality}
@@ -32,15 +23,6 @@ normal_le f e = by_terms f.coefs
     by_terms [] = elim (cases_Bool (stands f.rel f.constant)) [ inl is ↦ rw is tt | inr isnt ↦ rw isnt tt ]
     by_terms (t ∷ ts) = subst (λ (rel : Rel). LeavesInequality (divided_by rel (content_of (t ∷ ts)) f)) (sym e) e
 
--- ---- sums
-
-pub combined_le : (a : Form) (p : ℤ) (b : Form) (q : ℤ) → IfSome (combined a p b q) (λ r. r.rel ≡ Le)
-unfolding mixed_form
-combined_le a p b q = elim (cases_Bool (is_small (mixed p a.constant q b.constant) && all_small (mixed_terms p a.coefs q b.coefs))) [
-  | inl is ↦ rw is refl
-  | inr isnt ↦ rw isnt tt
-]
-
 -- ---- facts without repeats
 
 pub with_le : (f : Form) (kept : List Form) → f.rel ≡ Le → AreInequalities kept → AreInequalities (with_fact f kept)
@@ -54,10 +36,10 @@ next_le f rest more e h =
     let all = All-same (λ g. g.rel ≡ Le) (f ∷ rest) more (sym e) h in
     (All-head (λ g. g.rel ≡ Le) f rest all, All-tail (λ g. g.rel ≡ Le) f rest all)
 
--- what holds of the facts that are made
-pub each_made : (r : Result (List Form) AllocError) (fs : List Form) (P : List Form → Type 0) → IfOk r (λ d. d ≡ fs) → P fs → IfOk r P
-each_made (Ok d) fs P e h = subst P (sym e) h
-each_made (Err x) fs P e h = tt
+-- what holds of an answer, from what it is
+pub each_ok : {X : Type 0} (P Q : X → Type 0) (r : Result X AllocError) → ((x : X) → P x → Q x) → IfOk r P → IfOk r Q
+each_ok P Q (Ok x) h k = h x k
+each_ok P Q (Err e) h k = tt
 
 -- ---- ranges and equations as inequalities
 

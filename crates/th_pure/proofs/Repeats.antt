@@ -1,9 +1,8 @@
 -- Equal facts, and facts without repeats.
-use Rattle.std.proofs.Common.{◌≡◌, ℕ, ◌<◌, ◌≤◌, ℤ, List, [], ◌∷◌, ◌++◌, length, arith, refl, ap, sym, ◌∙◌, cond, inl, inr, ◌⊎◌, Bool, true, false, ◌&&◌, eqb, length-append, subst}
+use Rattle.std.proofs.Common.{◌≡◌, ℕ, ◌<◌, ◌≤◌, ℤ, List, [], ◌∷◌, ◌++◌, length, arith, refl, ap, ◌∙◌, inl, inr, Bool, true, ◌&&◌, eqb, length-append}
 use Rattle.std.specs.Bool.{Decides}
 use Rattle.std.specs.Ordering.{int_eq}
 use Rattle.std.proofs.lemmas.Bool.{cases_Bool, false_from_ne_true, le-leb, lt-leb}
-use Rattle.std.proofs.lemmas.List.Elements.{All-rest, All-head, All-same, All-push}
 use Rattle.std.proofs.lemmas.Bool.Decides.{Decides-eqb, Decides-int_eq, Decides-and}
 use Rattle.th_linear.specs.Forms.{Form}
 use Rattle.th_linear.specs.declared.fact.Rel.{Rel}

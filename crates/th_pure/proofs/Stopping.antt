@@ -1,19 +1,21 @@
 -- The progress of an elimination leads to the answer of all combinations.
-use Rattle.std.proofs.Common.{◌≡◌, ℕ, ◌<◌, ◌≤◌, List, [], ◌∷◌, ◌++◌, map, refl, ap, sym, ◌∙◌, append_assoc, Option, Some, None, length, arith, inl, inr}
+use Rattle.std.proofs.Common.{◌≡◌, ℕ, ◌<◌, ◌≤◌, List, [], ◌∷◌, ◌++◌, refl, ap, sym, ◌∙◌, Option, Some, None, length, arith, inl, inr}
 use Rattle.std.proofs.lemmas.Bool.{cases_lt}
 use Rattle.th_linear.specs.Forms.{Form}
 use Rattle.th_linear.specs.Divided.{normal_of}
 use Rattle.th_linear.specs.declared.division.NormalForm.{NormalForm}
 use Rattle.th_linear.specs.declared.division.NormalForm.TheVariants.{True, False, Fact}
+use Rattle.th_linear.specs.Judged.{judged_as, judgement_of}
+use Rattle.th_linear.specs.declared.mixture.Judgement.TheVariants as judged
 use Rattle.th_pure.specs.declared.elimination.TheConstants.{FACT_LIMIT}
 use Rattle.th_pure.specs.declared.facts.Outcome.{Outcome}
 use Rattle.th_pure.specs.declared.facts.Outcome.TheVariants.{Refuted, Undecided, Remaining}
 use Rattle.th_pure.specs.declared.products.Progress as progress
 use Rattle.th_pure.specs.Outcomes.{and_then, facts_before}
-use Rattle.th_pure.specs.Division.{judged, divided_all}
+use Rattle.th_pure.specs.Division.{divided_all}
 use Rattle.th_pure.specs.Substitution.{all_made}
-use Rattle.th_pure.specs.Elimination.{uppers, lowers, without, without_repeats, combinations, with_fact, has_fact, put_after, eliminated, eliminated_all}
-use Rattle.th_pure.specs.Early.{AnswerAlike, answer_after}
+use Rattle.th_pure.specs.Elimination.{uppers, lowers, without, without_repeats, combinations, with_fact, put_after, eliminated, eliminated_all}
+use Rattle.th_pure.specs.Early.{answer_after, HasRoom}
 use Rattle.th_pure.proofs.Repeats.{both_long, put_longer, put_append}
 
 -- ---- one combination
@@ -86,16 +88,51 @@ long_alike xs ys os vs h k = by_new (and_then (all_made os) divided_all)
 with_longer : (f : Form) (fs : List Form) → length fs ≤ length (with_fact f fs)
 with_longer f fs = put_longer fs (f ∷ [])
 
--- a fact kept as far as there is room
-pub kept_fact : (kept next : List Form) (f r : Form) (os : List (Option Form)) (vs : List ℕ) → normal_of f ≡ Fact r
-    → (length kept < FACT_LIMIT → next ≡ with_fact r kept) → (FACT_LIMIT ≤ length kept → next ≡ kept)
-    → answer_after (progress.TheVariants.Open next) os vs ≡ answer_after (progress.TheVariants.Open kept) (Some f ∷ os) vs
-kept_fact kept next f r os vs e room full = elim (cases_lt (length kept) FACT_LIMIT) [
-  | inl less ↦ ap (λ (fs : List Form). answer_after (progress.TheVariants.Open fs) os vs) (room less) ∙ put_fact kept f r os vs e
-  | inr more ↦
-      ap (λ (fs : List Form). answer_after (progress.TheVariants.Open fs) os vs) (full more)
-      ∙ long_alike kept (with_fact r kept) os vs more (omega (arith, more, with_longer r kept)) ∙ put_fact kept f r os vs e
-]
+-- ---- a combination that isn't kept
+
+no_room_long : (kept : List Form) → (length kept < FACT_LIMIT → ⊥) → FACT_LIMIT ≤ length kept
+no_room_long kept h = elim (cases_lt (length kept) FACT_LIMIT) [ inl less ↦ absurd (h less) | inr more ↦ more ]
+
+by_normal : (kept : List Form) (f : Form) (n : NormalForm) (os : List (Option Form)) (vs : List ℕ) → normal_of f ≡ n → FACT_LIMIT ≤ length kept → judged_as n ≡ judged.Possible
+    → answer_after (progress.TheVariants.Open kept) os vs ≡ answer_after (progress.TheVariants.Open kept) (Some f ∷ os) vs
+by_normal kept f True os vs e long h = passed_true kept f os vs e
+by_normal kept f False os vs e long h = let n : judged.False ≡ judged.Possible = h in cc
+by_normal kept f (Fact r) os vs e long h = long_alike kept (with_fact r kept) os vs long (omega (arith, long, with_longer r kept)) ∙ put_fact kept f r os vs e
+
+-- one that can be satisfied changes nothing
+pub pass_possible : (p : progress.Progress) (o : Option Form) (os : List (Option Form)) (vs : List ℕ) → (HasRoom p → ⊥) → judgement_of o ≡ judged.Possible
+    → answer_after p os vs ≡ answer_after p (o ∷ os) vs
+pass_possible p None os vs full h = let n : judged.TooLarge ≡ judged.Possible = h in cc
+pass_possible progress.TheVariants.TooLarge (Some f) os vs full h = refl
+pass_possible progress.TheVariants.FoundFalse (Some f) os vs full h = still_false f os vs
+pass_possible (progress.TheVariants.Open kept) (Some f) os vs full h = by_normal kept f (normal_of f) os vs refl (no_room_long kept full) h
+
+is_false : (n : NormalForm) → judged_as n ≡ judged.False → n ≡ False
+is_false True h = let n : judged.Possible ≡ judged.False = h in cc
+is_false False h = refl
+is_false (Fact r) h = let n : judged.Possible ≡ judged.False = h in cc
+
+-- a false one is found
+pub pass_false : (kept : List Form) (o : Option Form) (os : List (Option Form)) (vs : List ℕ) → judgement_of o ≡ judged.False
+    → answer_after progress.TheVariants.FoundFalse os vs ≡ answer_after (progress.TheVariants.Open kept) (o ∷ os) vs
+pass_false kept None os vs h = let n : judged.TooLarge ≡ judged.False = h in cc
+pass_false kept (Some f) os vs h = found_false kept f os vs (is_false (normal_of f) h)
+
+pub pass_still : (o : Option Form) (os : List (Option Form)) (vs : List ℕ) → judgement_of o ≡ judged.False
+    → answer_after progress.TheVariants.FoundFalse os vs ≡ answer_after progress.TheVariants.FoundFalse (o ∷ os) vs
+pass_still None os vs h = let n : judged.TooLarge ≡ judged.False = h in cc
+pass_still (Some f) os vs h = still_false f os vs
+
+made_normal : (n : NormalForm) → judged_as n ≡ judged.TooLarge → ⊥
+made_normal True h = let n : judged.Possible ≡ judged.TooLarge = h in cc
+made_normal False h = let n : judged.False ≡ judged.TooLarge = h in cc
+made_normal (Fact r) h = let n : judged.Possible ≡ judged.TooLarge = h in cc
+
+-- one that is too large settles the answer
+pub pass_large : (p : progress.Progress) (o : Option Form) (os : List (Option Form)) (vs : List ℕ) → judgement_of o ≡ judged.TooLarge
+    → Undecided ≡ answer_after p (o ∷ os) vs
+pass_large p None os vs h = too_large p os vs
+pass_large p (Some f) os vs h = absurd (made_normal (normal_of f) h)
 
 -- ---- all combinations
 

@@ -1,9 +1,10 @@
 -- How the code stops early: the progress of an elimination, and the answer that it leads to.
-use Rattle.std.specs.Prelude.{◌≡◌, ℕ, List, Option}
+use Rattle.std.specs.Prelude.{◌≡◌, ◌<◌, ℕ, List, length, Option}
 use Rattle.th_linear.specs.Forms.{Form}
 use Rattle.th_linear.specs.declared.fact.Rel.TheVariants.{Le}
 use Rattle.th_linear.specs.declared.division.NormalForm.{NormalForm}
 use Rattle.th_linear.specs.declared.division.NormalForm.TheVariants.{True, False, Fact}
+use Rattle.th_pure.specs.declared.elimination.TheConstants.{FACT_LIMIT}
 use Rattle.th_pure.specs.declared.facts.Outcome.{Outcome}
 use Rattle.th_pure.specs.declared.facts.Outcome.TheVariants.{Refuted, Undecided, Remaining}
 use Rattle.th_pure.specs.declared.products.Progress as progress
@@ -21,6 +22,12 @@ abbrev pub answer_after : progress.Progress → List (Option Form) → List ℕ 
 answer_after progress.TheVariants.TooLarge os vs = Undecided
 answer_after progress.TheVariants.FoundFalse os vs = and_then (all_made os) (λ _. Refuted)
 answer_after (progress.TheVariants.Open kept) os vs = and_then (and_then (all_made os) divided_all) (λ new. eliminated_all vs (put_after kept new))
+
+-- further facts are kept
+abbrev pub HasRoom : progress.Progress → Type 0
+HasRoom progress.TheVariants.TooLarge = ⊥
+HasRoom progress.TheVariants.FoundFalse = ⊥
+HasRoom (progress.TheVariants.Open kept) = length kept < FACT_LIMIT
 
 -- the facts that are left are inequalities
 abbrev pub AreLeft : Outcome → Type 0

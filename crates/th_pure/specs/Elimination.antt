@@ -38,13 +38,24 @@ lowers v fs = filter (λ f. int_lt (coef v f.coefs) (pos 0)) fs
 abbrev pub without : ℕ → List Form → List Form
 without v fs = filter (λ f. int_eq (coef v f.coefs) (pos 0)) fs
 
--- a with coefficient c of the variable taken d / g times, and b with coefficient -d taken c / g times,
--- where g is the greatest common divisor of c and d: the variable vanishes
-abbrev pub vanishing : ℕ → Form → Form → Option Form
-vanishing v a b =
+-- how often a, with coefficient c of the variable, is taken for a b with coefficient -d: d / g times,
+-- where g is the greatest common divisor of c and d
+abbrev pub times_upper : ℕ → Form → Form → ℕ
+times_upper v a b =
     let c = unsigned_abs (coef v a.coefs) in
     let d = unsigned_abs (coef v b.coefs) in
-    combined a (pos (d / gcd_of c d)) b (pos (c / gcd_of c d))
+    d / gcd_of c d
+
+-- and how often b is taken: c / g times
+abbrev pub times_lower : ℕ → Form → Form → ℕ
+times_lower v a b =
+    let c = unsigned_abs (coef v a.coefs) in
+    let d = unsigned_abs (coef v b.coefs) in
+    c / gcd_of c d
+
+-- a and b combined so that the variable vanishes
+abbrev pub vanishing : ℕ → Form → Form → Option Form
+vanishing v a b = combined a (pos (times_upper v a b)) b (pos (times_lower v a b))
 
 -- each of the first combined with each of the second
 abbrev pub combinations : ℕ → List Form → List Form → List (Option Form)

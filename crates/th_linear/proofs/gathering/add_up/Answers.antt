@@ -1,6 +1,6 @@
-use Rattle.std.proofs.Common.{◌≡◌, ◌+◌, ◌*◌, ◌<◌, ◌≤◌, ◌^◌, pos, ◌+ℤ◌, length, arith, rules, sym, ◌∙◌, subst}
+use Rattle.std.proofs.Common.{◌<◌, ◌≤◌, pos, ◌+ℤ◌, length, arith, rules, ◌∙◌}
 use Rattle.std.specs.Int.{w128}
-use Rattle.std.specs.Int.RustNames.{FitsSigned, unsigned_abs}
+use Rattle.std.specs.Int.RustNames.{FitsSigned}
 use Rattle.std.proofs.lemmas.Int.{to_z-of_z, fits_signed_from_abs}
 use Rattle.th_linear.proofs.Totals.{at_start, small_here, sum_less, at_same, at_next, at_end}
 use Rattle.th_linear.proofs.gathering.add_up.Goals as goal

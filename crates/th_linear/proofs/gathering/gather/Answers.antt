@@ -1,4 +1,4 @@
-use Rattle.std.proofs.Common.{sym, ◌∙◌, ℕ, ℤ, rules}
+use Rattle.std.proofs.Common.{◌∙◌, ℕ, ℤ, rules}
 use Rattle.std.proofs.lemmas.List.Sorted.{All-permutation, IsNonDecreasingBy-from_sort_by_key}
 use Rattle.th_linear.specs.Forms.{Small}
 use Rattle.th_linear.proofs.Totals.{gathered_permuted, all_small_terms}

@@ -1,8 +1,9 @@
-use Rattle.std.proofs.Common.{pos, get_or, rules, ◌∙◌}
+use Rattle.std.proofs.Common.{pos, get_or, rules}
 use Rattle.std.specs.Int.{w128}
 use Rattle.std.specs.Int.RustNames.{FitsSigned}
 use Rattle.std.proofs.lemmas.Int.{to_z-of_z}
-use Rattle.th_linear.proofs.Totals.{renamed_more, small_term, are_small_push}
+use Rattle.th_linear.proofs.Divisors.{small_term}
+use Rattle.th_linear.proofs.Totals.{renamed_more, are_small_push}
 use Rattle.th_linear.proofs.gathering.rename.Goals as goal
 
 pub loop-term-preserved : goal.loop-term-preserved

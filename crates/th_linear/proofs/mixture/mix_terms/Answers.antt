@@ -1,10 +1,10 @@
-use Rattle.std.proofs.Common.{◌≡◌, ◌+◌, ◌<◌, ℤ, pos, rules, arith, false, true, refl}
+use Rattle.std.proofs.Common.{◌≡◌, ◌+◌, rules, arith, false, true, refl}
 use Rattle.std.specs.Int.{w128}
-use Rattle.std.specs.Int.RustNames.{FitsSigned, unsigned_abs}
-use Rattle.std.proofs.lemmas.Int.{to_z-of_z, ints}
+use Rattle.std.specs.Int.RustNames.{FitsSigned}
+use Rattle.std.proofs.lemmas.Int.{to_z-of_z}
 use Rattle.th_linear.proofs.Mixes.{lower}
 use Rattle.th_linear.proofs.Rounds.{zero_bits}
-use Rattle.th_linear.proofs.Going.{going_large, going_push, going_skip, going_end}
+use Rattle.th_linear.proofs.Going.{going_large, going_push, going_skip, going_end, nonzero}
 use Rattle.th_linear.proofs.mixture.mix_terms.Goals as goal
 
 pub next_step-requires-clause-left : goal.next_step-requires-clause-left
@@ -19,9 +19,6 @@ returns-then-not-is_small c =
     let e = rw (to_z-of_z w128 c.in-Some.next.coefficient f) at c.if-not-is_small.ensures.1 in
     let g = going_large _ _ _ _ _ _ _ _ _ _ _ _ c.loop-next.invariant.1 c.in-Some.ensures (λ s. let n : false ≡ true = e s in cc) in
     rw (to_z-of_z w128 c.args.p c.ranges.p, to_z-of_z w128 c.args.q c.ranges.q) at g
-
-nonzero : (z : ℤ) → (z ≡ pos 0 → ⊥) → 0 < unsigned_abs z
-nonzero z n = grind (arith, ints)
 
 pub loop-next-preserved-in-Continue-branch-2 : goal.loop-next-preserved-in-Continue-branch-2
 loop-next-preserved-in-Continue-branch-2 c =
