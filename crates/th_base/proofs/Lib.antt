@@ -2,6 +2,7 @@ pub mod Alike
 pub mod Ascending
 pub mod Booleans
 pub mod Built
+pub mod Climbing
 pub mod DepthFirst
 pub mod Enough
 pub mod Looked

@@ -1,5 +1,7 @@
 pub mod Ancestors
 pub mod BuiltIn
+pub mod Climb
+pub mod Cycles
 pub mod Handlers
 pub mod Hierarchy
 pub mod IdSet

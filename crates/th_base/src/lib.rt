@@ -12,7 +12,10 @@
 mod ancestors;
 mod built_in;
 mod class;
+mod climb;
+mod component;
 mod copy;
+mod cycle;
 mod fail;
 mod handler;
 mod hierarchy;
@@ -27,6 +30,7 @@ mod number;
 mod numbered;
 mod operation;
 mod order;
+mod rank;
 mod seq;
 mod set_walks;
 mod shape;
@@ -39,6 +43,7 @@ pub use built_in::{
 };
 pub use class::{ClassInfo, FieldInfo, MethodInfo};
 pub use copy::{Same, TryCopy};
+pub use cycle::{Cycle, first_cycle};
 pub use fail::Fail;
 pub use handler::{
     HANDLERS, ON_CREATE, ON_DESTROY, ON_PAUSE, ON_RESTART, ON_RESUME, ON_SAVE_INSTANCE_STATE,
