@@ -3,11 +3,11 @@
 use Rattle.std.proofs.Common.{◌≡◌, ℕ, ◌+◌, ◌-◌, ◌<◌, ◌≤◌, zero, suc, Bool, true, false, ◌||◌, eqb, List, [], ◌∷◌, ◌++◌, ◌⊎◌, length, map, get_or, refl, sym, ap, ◌∙◌, subst, inl, inr, arith}
 use Rattle.std.specs.Option.{option_to_list}
 use Rattle.std.specs.Prelude.{Contains}
-use Rattle.std.proofs.lemmas.Bool.{or_cases, or_right, eqb-true, both_ways}
+use Rattle.std.proofs.lemmas.Bool.{cases_lt, or_cases, or_right, eqb-true, both_ways}
 use Rattle.std.proofs.lemmas.List.{length-append}
 use Rattle.th_base.specs.declared.class.ClassInfo.{ClassInfo}
 use Rattle.th_base.specs.Climb.{is_seen, Sees, rank_of, NeverRise, superclass_first_in}
-use Rattle.th_base.specs.Cycles.{IsAtOrAbove, superclass_first, IsFirstBack}
+use Rattle.th_base.specs.Cycles.{IsAtOrAbove, superclass_first, IsFirstBack, IsFirstCycle}
 use Rattle.th_base.specs.Hierarchy.{StandsAbove, directly, higher, superclass_of, interfaces_of, direct_supertypes}
 use Rattle.th_base.specs.Ancestors.{superclass_in}
 use Rattle.th_base.specs.IdSet.{has}
@@ -177,3 +177,16 @@ on_cycle classes c s f =
 
 pub no_cycle : (classes : List ClassInfo) (n : ℕ) → length classes ≤ n → ((c : ℕ) → c < n → StandsAbove classes c c → ⊥) → (c : ℕ) → StandsAbove classes c c → ⊥
 no_cycle classes n all none c cycle = none c (let inside = above_in_range classes c c cycle in omega arith) cycle
+
+same_number : (a b : ℕ) → (a < b → ⊥) → (b < a → ⊥) → a ≡ b
+same_number a b not_less not_more = elim (cases_lt a b) [ inl less ↦ absurd (not_less less) | inr not ↦ elim (cases_lt b a) [ inl more ↦ absurd (not_more more) | inr not' ↦ omega arith ] ]
+
+pub one_class : (classes : List ClassInfo) (c d s t : ℕ) → IsFirstCycle classes c s → IsFirstCycle classes d t → c ≡ d
+one_class classes c d s t f g = same_number c d (λ h. g.first c h f.on_cycle) (λ h. f.first d h g.on_cycle)
+
+pub one_supertype : (classes : List ClassInfo) (c s t : ℕ) → IsFirstBack classes c s → IsFirstBack classes c t → s ≡ t
+one_supertype classes c s t f g =
+    let place = same_number f.place g.place
+    (λ h. g.before f.place h (subst (IsAtOrAbove classes c) (sym f.stands) f.back))
+    (λ h. f.before g.place h (subst (IsAtOrAbove classes c) (sym g.stands) g.back)) in
+    sym f.stands ∙ ap (λ k. get_or (superclass_first classes c) k 0) place ∙ g.stands

@@ -2,6 +2,7 @@ pub mod Alike
 pub mod Ascending
 pub mod Booleans
 pub mod Built
+pub mod BuiltIns
 pub mod Climbing
 pub mod DepthFirst
 pub mod Enough
@@ -13,6 +14,7 @@ pub mod Merge
 pub mod Named
 pub mod Ordered
 pub mod Orders
+pub mod Resolved
 pub mod RowOf
 pub mod Rows
 pub mod Sieve

@@ -20,10 +20,10 @@ use Rattle.th_base.proofs.Upward.{first_some-append}
 
 -- ---- lists
 
-has-cons_cases : (x : ℕ) (xs : List ℕ) (y : ℕ) → has (x ∷ xs) y ≡ true → (x ≡ y) ⊎ (has xs y ≡ true)
+pub has-cons_cases : (x : ℕ) (xs : List ℕ) (y : ℕ) → has (x ∷ xs) y ≡ true → (x ≡ y) ⊎ (has xs y ≡ true)
 has-cons_cases x xs y h = elim (or_cases (eqb x y) (has xs y) h) [ inl same ↦ inl (eqb-true x y same) | inr later ↦ inr later ]
 
-has-flat_map : (f : ℕ → List ℕ) (xs : List ℕ) (y : ℕ) → has (flat_map f xs) y ≡ true → (x : ℕ) × (has xs x ≡ true) × (has (f x) y ≡ true)
+pub has-flat_map : (f : ℕ → List ℕ) (xs : List ℕ) (y : ℕ) → has (flat_map f xs) y ≡ true → (x : ℕ) × (has xs x ≡ true) × (has (f x) y ≡ true)
 has-flat_map f [] y h = absurd (both_ways _ refl h)
 has-flat_map f (x ∷ xs) y h =
     elim (has_append_cases (f x) (flat_map f xs) y h) [
@@ -72,7 +72,7 @@ subclass_trans classes a b d acyclic h g = lineage_trans classes (length classes
 
 -- ---- subtypes
 
-supertypes_up : (classes : List ClassInfo) (a s d : ℕ) → IsAcyclic classes → has (direct_supertypes classes a) s ≡ true → has (supertypes_of classes s) d ≡ true
+pub supertypes_up : (classes : List ClassInfo) (a s d : ℕ) → IsAcyclic classes → has (direct_supertypes classes a) s ≡ true → has (supertypes_of classes s) d ≡ true
     → has (supertypes_of classes a) d ≡ true
 supertypes_up classes a s d acyclic e h =
     let inside = low_in_range classes s a e in
@@ -100,7 +100,7 @@ numbers_trans classes (Some x) None k a h g = absurd (both_ways _ refl h)
 numbers_trans classes (Some x) (Some y) None a h g = absurd (both_ways _ refl g)
 numbers_trans classes (Some x) (Some y) (Some z) a h g = supertypes_trans classes (length classes) x y z a h g
 
-same_bytes : (a b : List ℕ) → bytes_eq a b ≡ true → a ≡ b
+pub same_bytes : (a b : List ℕ) → bytes_eq a b ≡ true → a ≡ b
 same_bytes a b h = (bytes_eq-Decides a b).0 h
 
 bytes_refl : (a : List ℕ) → bytes_eq a a ≡ true
@@ -175,11 +175,11 @@ first_step f x xs y (Some z) e g rest =
     (x, rw (eq-eqb x x refl) refl, e ∙ (ap (λ o. option_or o (first_some f xs)) (sym e) ∙ g))
 
 -- what is found passes, and stands in the list
-found_passes : {X : Type 0} (p : X → Bool) (xs : List X) (x : X) → find p xs ≡ Some x → (p x ≡ true) × Contains xs x
+pub found_passes : {X : Type 0} (p : X → Bool) (xs : List X) (x : X) → find p xs ≡ Some x → (p x ≡ true) × Contains xs x
 found_passes p [] x e = cc
 found_passes p (y ∷ ys) x e = found_step p y ys x (p y) refl e (λ g. found_passes p ys x g)
 
-first_found : {Y : Type 0} (f : ℕ → Option Y) (xs : List ℕ) (y : Y) → first_some f xs ≡ Some y → (x : ℕ) × (has xs x ≡ true) × (f x ≡ Some y)
+pub first_found : {Y : Type 0} (f : ℕ → Option Y) (xs : List ℕ) (y : Y) → first_some f xs ≡ Some y → (x : ℕ) × (has xs x ≡ true) × (f x ≡ Some y)
 first_found f [] y e = cc
 first_found f (x ∷ xs) y e = first_step f x xs y (f x) refl e (λ g. first_found f xs y g)
 

@@ -176,3 +176,21 @@ numbered_field classes n = numbered_from (λ k. k.fields) (λ f. f.id.0) 0 class
 -- the first method of this number, and the class that declares it
 abbrev pub numbered_method : List ClassInfo → ℕ → Option (ℕ × MethodInfo)
 numbered_method classes n = numbered_from (λ k. k.methods) (λ m. m.id.0) 0 classes n
+
+-- a field of this name and descriptor, declared by class c or by one that stands above it
+pub record IsFieldAbove (classes : List ClassInfo) (c : ℕ) (name descriptor : List ℕ) (found : ℕ × FieldInfo) : Type 0 where
+  pub info : ClassInfo
+  pub above : list_any (λ k. k == found.0) (supertypes_of classes c) ≡ true
+  pub stands : slice_get classes found.0 ≡ Some info
+  pub declared : Contains info.fields found.1
+  pub name_is : found.1.name ≡ name
+  pub descriptor_is : found.1.descriptor ≡ descriptor
+
+-- a method of this name and descriptor, declared by class c or by one that stands above it
+pub record IsMethodAbove (classes : List ClassInfo) (c : ℕ) (name descriptor : List ℕ) (found : ℕ × MethodInfo) : Type 0 where
+  pub info : ClassInfo
+  pub above : list_any (λ k. k == found.0) (supertypes_of classes c) ≡ true
+  pub stands : slice_get classes found.0 ≡ Some info
+  pub declared : Contains info.methods found.1
+  pub name_is : found.1.name ≡ name
+  pub descriptor_is : found.1.descriptor ≡ descriptor

@@ -11,6 +11,7 @@ ghost use Rattle.th_base.specs.IdSet.{has, IsAscending, inserted, union_of, inte
 ghost use Rattle.th_base.specs.Subtype.{is_subtype, AreAboveAll};
 
 pub mod programs;
+pub mod resolution;
 
 /// Two sets with the same members are one list.
 pub fn members_make_the_set()

@@ -1,10 +1,12 @@
 // What the built-in classes, the harness's handlers and the lifecycle's chart are, in plain lists.
-ghost use Rattle.std.specs.Prelude.{◌≡◌, ℕ, [], ◌∷◌, codes, map, true, false, Some, None};
+ghost use Rattle.std.specs.Prelude.{◌≡◌, ℕ, List, [], ◌∷◌, ◌++◌, codes, map, true, false, Some, None};
 ghost use Rattle.std.specs.List.{range_with_len};
+ghost use Rattle.th_base.specs.declared.class.ClassInfo.{ClassInfo};
 ghost use Rattle.th_base.specs.declared.lifecycle.Lifecycle.TheVariants.{Any};
 ghost use Rattle.th_base.specs.BuiltIn.{built_in_classes, built_in_names};
 ghost use Rattle.th_base.specs.Handlers.{Handler, handlers, takes_bundle, stage_after};
 ghost use Rattle.th_base.specs.Launchable.{is_activity, launchable};
+ghost use Rattle.th_base.specs.Subtype.{AreAboveAll};
 ghost use Rattle.th_base.specs.ValueKinds.{is_reference, is_long, is_int};
 ghost use Rattle.th_base.specs.Worked.{supertype_names, method_rows, stage_table, sample_classes};
 
@@ -69,4 +71,10 @@ pub fn kinds_of_descriptors()
     ensures longs { map is_long (codes "J" ∷ codes "[J" ∷ codes "I" ∷ []) ≡ true ∷ false ∷ false ∷ [] }
     ensures ints { map is_int (codes "B" ∷ codes "C" ∷ codes "I" ∷ codes "S" ∷ codes "Z" ∷ codes "J" ∷ codes "LB;" ∷ codes "[I" ∷ [])
         ≡ true ∷ true ∷ true ∷ true ∷ true ∷ false ∷ false ∷ false ∷ [] }
+{}
+
+/// Before whatever classes the built-in ones stand, nothing but `java/lang/Object`, `java/lang/Cloneable`
+/// and `java/io/Serializable` stands above these three. So subtype is transitive in every such hierarchy.
+pub fn built_in_classes_stand_above_arrays()
+    ensures { (more : List ClassInfo) → AreAboveAll (built_in_classes ++ more) }
 {}
