@@ -6,6 +6,7 @@ ghost use Rattle.th_base.specs.IdSet.{has};
 ghost use Rattle.th_base.specs.Subtype.{class_named, is_class_subtype, described_type, is_type_subtype, is_subtype};
 
 use crate::ancestors::{Ancestors, ancestors_of};
+use crate::index::code_of;
 use crate::members::{Members, field_along, members_of, method_along, method_in, overriding_along};
 use crate::names::names_of;
 use crate::numbered::{Place, field_numbers, method_numbers, places_of};
@@ -188,11 +189,13 @@ impl Hierarchy {
         ensures { option_copied result ≡ declared_method self.now name.now descriptor.now class.0 }
     {
         let at = class.0 as usize;
+        let code = code_of(name, descriptor);
         method_in(
             &self.classes.as_slice()[at],
             &self.members[at],
             name,
             descriptor,
+            code,
         )
     }
 

@@ -4,7 +4,7 @@ ghost use Rattle.std.specs.Option.{option_copied, option_map};
 ghost use Rattle.std.specs.Str.{bytes_eq};
 ghost use Rattle.th_base.specs.Hierarchy.{first_field, first_method, overriding_along as overriding_method_along};
 ghost use Rattle.th_base.specs.IdSet.{has};
-ghost use Rattle.th_base.specs.MemberIndex.{IsIndex, AreIndexed, field_codes, method_codes};
+ghost use Rattle.th_base.specs.MemberIndex.{IsIndex, AreIndexed, code_of, field_codes, method_codes};
 
 use crate::index::{Index, code_of};
 use crate::{ClassId, ClassInfo, FieldInfo, MethodInfo};
@@ -79,18 +79,20 @@ fn is_overriding(method: &MethodInfo, name: &[u8], descriptor: &[u8]) -> bool
     is_method(method, name, descriptor) && (!method.is_static && !method.is_private)
 }
 
-// The first field of this name and descriptor that a class declares.
+// The first field of this name and descriptor, which have this number, that a class declares.
 pub(crate) fn field_in<'a>(
     class: &'a ClassInfo,
     members: &Members,
     name: &[u8],
     descriptor: &[u8],
+    code: u64,
 ) -> Option<&'a FieldInfo>
-    requires { IsIndex (field_codes class.now.fields) members.now.fields.buckets.items }
+    requires code { code ≡ code_of name.now descriptor.now }
+    requires index { IsIndex (field_codes class.now.fields) members.now.fields.buckets.items }
     ensures { option_copied result ≡ find (λ f. bytes_eq f.name name.now && bytes_eq f.descriptor descriptor.now) class.now.fields }
 {
     let fields = class.fields.as_slice();
-    for place in members.fields.places(code_of(name, descriptor)) {
+    for place in members.fields.places(code) {
         let field = &fields[*place];
         if is_field(field, name, descriptor) {
             return Some(field);
@@ -99,18 +101,20 @@ pub(crate) fn field_in<'a>(
     None
 }
 
-// The first method of this name and descriptor that a class declares.
+// The first method of this name and descriptor, which have this number, that a class declares.
 pub(crate) fn method_in<'a>(
     class: &'a ClassInfo,
     members: &Members,
     name: &[u8],
     descriptor: &[u8],
+    code: u64,
 ) -> Option<&'a MethodInfo>
-    requires { IsIndex (method_codes class.now.methods) members.now.methods.buckets.items }
+    requires code { code ≡ code_of name.now descriptor.now }
+    requires index { IsIndex (method_codes class.now.methods) members.now.methods.buckets.items }
     ensures { option_copied result ≡ find (λ m. bytes_eq m.name name.now && bytes_eq m.descriptor descriptor.now) class.now.methods }
 {
     let methods = class.methods.as_slice();
-    for place in members.methods.places(code_of(name, descriptor)) {
+    for place in members.methods.places(code) {
         let method = &methods[*place];
         if is_method(method, name, descriptor) {
             return Some(method);
@@ -119,18 +123,21 @@ pub(crate) fn method_in<'a>(
     None
 }
 
-// The first instance method of this name and descriptor, not private, that a class declares.
+// The first instance method of this name and descriptor, which have this number, that a class declares
+// and that isn't private.
 pub(crate) fn overriding_in<'a>(
     class: &'a ClassInfo,
     members: &Members,
     name: &[u8],
     descriptor: &[u8],
+    code: u64,
 ) -> Option<&'a MethodInfo>
-    requires { IsIndex (method_codes class.now.methods) members.now.methods.buckets.items }
+    requires code { code ≡ code_of name.now descriptor.now }
+    requires index { IsIndex (method_codes class.now.methods) members.now.methods.buckets.items }
     ensures { option_copied result ≡ find (λ m. (bytes_eq m.name name.now && bytes_eq m.descriptor descriptor.now) && (not m.is_static && not m.is_private)) class.now.methods }
 {
     let methods = class.methods.as_slice();
-    for place in members.methods.places(code_of(name, descriptor)) {
+    for place in members.methods.places(code) {
         let method = &methods[*place];
         if is_overriding(method, name, descriptor) {
             return Some(method);
@@ -151,9 +158,10 @@ pub(crate) fn field_along<'a>(
     requires inside { (c : ℕ) → has order.now c ≡ true → c < length classes.now }
     ensures { option_map (λ found. (found.0.0, found.1.now)) result ≡ first_field classes.now name.now descriptor.now order.now }
 {
+    let code = code_of(name, descriptor);
     for class in order {
         let at = *class as usize;
-        if let Some(field) = field_in(&classes[at], &members[at], name, descriptor) {
+        if let Some(field) = field_in(&classes[at], &members[at], name, descriptor, code) {
             return Some((ClassId(*class), field));
         }
     }
@@ -172,9 +180,10 @@ pub(crate) fn method_along<'a>(
     requires inside { (c : ℕ) → has order.now c ≡ true → c < length classes.now }
     ensures { option_map (λ found. (found.0.0, found.1.now)) result ≡ first_method classes.now name.now descriptor.now order.now }
 {
+    let code = code_of(name, descriptor);
     for class in order {
         let at = *class as usize;
-        if let Some(method) = method_in(&classes[at], &members[at], name, descriptor) {
+        if let Some(method) = method_in(&classes[at], &members[at], name, descriptor, code) {
             return Some((ClassId(*class), method));
         }
     }
@@ -193,9 +202,10 @@ pub(crate) fn overriding_along<'a>(
     requires inside { (c : ℕ) → has order.now c ≡ true → c < length classes.now }
     ensures { option_copied result ≡ option_map (λ found. found.1) (overriding_method_along classes.now name.now descriptor.now order.now) }
 {
+    let code = code_of(name, descriptor);
     for class in order {
         let at = *class as usize;
-        if let Some(method) = overriding_in(&classes[at], &members[at], name, descriptor) {
+        if let Some(method) = overriding_in(&classes[at], &members[at], name, descriptor, code) {
             return Some(method);
         }
     }

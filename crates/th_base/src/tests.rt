@@ -1,7 +1,7 @@
 // The look-ups over one hierarchy, each with ample memory.
 use crate::{
     ClassId, ClassInfo, FieldId, FieldInfo, Hierarchy, MethodId, MethodInfo, Same, Seq, Text,
-    TryCopy, acyclic,
+    TryCopy, acyclic, first_cycle,
 };
 use std::alloc::{AllocError, Global};
 use std::process::Abort;
@@ -76,6 +76,15 @@ const SUBCLASSES: &str = "16 14 yes
 16 16 yes
 14 16 no
 16 11 no";
+
+// Classes, their cycle's first class and its supertype: below a cycle of two; a class that extends
+// itself; the superclass's way back before the interface's; an interface's way back behind one that
+// leads nowhere; and none.
+const CYCLES: &str = "a 1 - - -,b 2 - - -,c 1 - - - 1 2
+a - - - -,b 1 - - - 1 1
+a 2 1 - -,b 0 - - -,c 0 - - - 0 2
+a - 1;2 - -,b - - - -,c 0 - - - 0 2
+a 1 2 - -,b 9 2 - -,c - - - - - -";
 
 fn text(alloc: Global, word: &str) -> Result<Text, AllocError> {
     Text::from_slice(alloc, word.as_bytes())
@@ -309,5 +318,61 @@ fn classes_are_copied_and_compared(rt: HostRuntime) -> Result<(), Fail> {
     let alloc = rt.alloc();
     let class = class_of(alloc, "x/A 10 12,13 g m,!p", 0)?;
     assert!(rt; class.try_copy(alloc)?.same(&class));
+    Ok(())
+}
+
+// The first cycle of classes that stand one behind the other in a row, whose superinterfaces are parted
+// by `;`. The last one is followed by what is wanted.
+fn check_cycle(rt: &impl Abort, alloc: Global, row: &str) -> Result<(), AllocError> {
+    let mut classes = Vec::new(alloc);
+    let mut wanted = (None, None);
+    for line in row.split(',') {
+        let mut words = line.split(' ');
+        let mut class = class_of(alloc, words.next().unwrap_or(""), 0)?;
+        class.super_id = number(words.next()).map(ClassId);
+        for word in words.next().unwrap_or("").split(';') {
+            if let Some(id) = number(Some(word)) {
+                class.interfaces.push(ClassId(id))?;
+            }
+        }
+        classes.push(class)?;
+        wanted = (number(words.nth(2)), number(words.next()));
+    }
+    assert!(rt; classes.len() < 4_294_967_296);
+    let found = first_cycle(alloc, classes.as_slice())?;
+    let class = found.map(|cycle| cycle.class.0);
+    let supertype = found.map(|cycle| cycle.supertype.0);
+    assert_eq!(rt; (class, supertype), wanted);
+    Ok(())
+}
+
+#[test]
+fn first_cycles_are_found(rt: HostRuntime) -> Result<(), Fail> {
+    let alloc = rt.alloc();
+    for row in CYCLES.lines() {
+        check_cycle(&rt, alloc, row)?;
+    }
+    let circle = chain(alloc, Some(4095))?;
+    assert!(rt; circle.len() < 4_294_967_296);
+    let found = first_cycle(alloc, circle.as_slice())?;
+    assert_eq!(rt; found.map(|cycle| cycle.supertype.0), Some(4095));
+    Ok(())
+}
+
+#[test]
+fn members_are_answered(rt: HostRuntime) -> Result<(), Fail> {
+    let alloc = rt.alloc();
+    let h = hierarchy_of(&rt, alloc, classes_of(alloc, CLASSES)?)?.copy(alloc)?;
+    assert_eq!(rt; h.find_class(b"x/A"), Some(ClassId(14)));
+    assert_eq!(rt; h.find_class(b"x/Missing"), None);
+    assert_eq!(rt; h.field(FieldId(140)).map(|found| found.0.0), Some(14));
+    assert_eq!(rt; h.method(MethodId(143)).map(|found| found.0.0), Some(14));
+    assert!(rt; h.field(FieldId(9)).is_none() && h.method(MethodId(9)).is_none());
+    assert!(rt; h.classes().len() > 16);
+    let declared = h.declared_method(ClassId(10), b"onStart", b"()V");
+    assert_eq!(rt; declared.map(|method| method.id), Some(MethodId(101)));
+    assert!(rt; h.declared_method(ClassId(14), b"onStart", b"()V").is_none());
+    assert!(rt; h.is_class_subtype(ClassId(16), ClassId(11)));
+    assert!(rt; !h.is_class_subtype(ClassId(11), ClassId(16)));
     Ok(())
 }

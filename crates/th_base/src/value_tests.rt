@@ -121,7 +121,10 @@ fn items_are_copied_by_a_function(rt: HostRuntime) -> Result<(), Fail> {
 fn plain_values_are_copied_and_compared(rt: HostRuntime) -> Result<(), Fail> {
     let alloc = rt.alloc();
     let word = Text::from_slice(alloc, b"ab")?;
-    assert!(rt; word.try_copy(alloc)?.same(&Text::from_vec(vec![in alloc; b'a', b'b']?)?));
+    assert!(rt;
+        word.try_copy(alloc)?
+            .same(&Text::from_vec(vec![in alloc; b'a', b'b']?)?)
+    );
     assert!(rt; Text::new(alloc)?.is_empty());
     let name = Name::from_str(alloc, "Act.class")?;
     assert!(rt; name.try_copy(alloc)?.same(&name));

@@ -74,7 +74,7 @@ pub fn kinds_of_descriptors()
 {}
 
 /// Before whatever classes the built-in ones stand, nothing but `java/lang/Object`, `java/lang/Cloneable`
-/// and `java/io/Serializable` stands above these three. So subtype is transitive in every such hierarchy.
+/// and `java/io/Serializable` stands above these three. So subtype is transitive where all the classes are acyclic.
 pub fn built_in_classes_stand_above_arrays()
     ensures { (more : List ClassInfo) → AreAboveAll (built_in_classes ++ more) }
 {}
