@@ -84,18 +84,21 @@ base_inv c i x sets news news' queue queue' r v =
       copies = λ j y one e f. knows j.to y (v.copies j y one e f);
     }
 
+pub base_range : (c : Constraints) (i x : ℕ) → i < c.sets → IsInRange c → IsInRange (more_base c i x)
+base_range c i x lt r = record {
+  base = λ k y one. elim (Contains-push_cases c.base (i, x) (k, y) one) [
+    | inl old ↦ r.base k y old
+    | inr same ↦ subst (λ p. p.0 < c.sets) same lt
+  ];
+  copies = r.copies;
+}
+
 pub base_tables : (c : Constraints) (i x : ℕ) (out : List (List Inclusion)) → i < c.sets → Tables c out → Tables (more_base c i x) out
 base_tables c i x out lt t = record {
   out_len = t.out_len;
   listed = t.listed;
   only = t.only;
-  range = record {
-    base = λ k y one. elim (Contains-push_cases c.base (i, x) (k, y) one) [
-      | inl old ↦ t.range.base k y old
-      | inr same ↦ subst (λ p. p.0 < c.sets) same lt
-    ];
-    copies = t.range.copies;
-  };
+  range = base_range c i x lt t.range;
 }
 
 pub received_in_queue : (n i : ℕ) (ids : List ℕ) (news news' : List (List ℕ)) (queue queue' : List ℕ) → i < n → Receives i ids news queue news' queue'
@@ -144,6 +147,15 @@ copy_inv c j sets news news' queue queue' r v =
       ];
     }
 
+pub copy_range : (c : Constraints) (j : Inclusion) → j.from < c.sets → j.to < c.sets → j.filter < length c.filters → IsInRange c → IsInRange (more_copy c j)
+copy_range c j from to filter r = record {
+  base = r.base;
+  copies = λ i one. elim (Contains-push_cases c.copies j i one) [
+    | inl old ↦ r.copies i old
+    | inr same ↦ subst (λ i. (i.from < c.sets) × (i.to < c.sets) × (i.filter < length c.filters)) same (from, to, filter)
+  ];
+}
+
 pub copy_tables : (c : Constraints) (j : Inclusion) (out : List (List Inclusion)) → j.from < c.sets → j.to < c.sets → j.filter < length c.filters → Tables c out
     → Tables (more_copy c j) (set out j.from (out_at out j.from ++ j ∷ []))
 copy_tables c j out from to filter t =
@@ -168,13 +180,7 @@ copy_tables c j out from to filter t =
         ]
         | inr ne ↦ (let w = t.only k i (subst (λ l. Contains l i) (others k ne) one) in (Contains-append_left c.copies (j ∷ []) i w.0, w.1))
       ];
-      range = record {
-        base = t.range.base;
-        copies = λ i one. elim (Contains-push_cases c.copies j i one) [
-          | inl old ↦ t.range.copies i old
-          | inr same ↦ subst (λ i. (i.from < c.sets) × (i.to < c.sets) × (i.filter < length c.filters)) same (from, to, filter)
-        ];
-      };
+      range = copy_range c j from to filter t.range;
     }
 
 -- ---- more sets

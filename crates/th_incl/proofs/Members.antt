@@ -70,8 +70,8 @@ IsAscending-push (x ∷ []) y a h = let less : x < y = h (omega arith) in ((less
 IsAscending-push (x ∷ z ∷ zs) y a h =
     let less : x < z = a.0.0 in
     let rest = IsAscending-push (z ∷ zs) y a.1 (λ l.
-        let e : length (x ∷ z ∷ zs) - 1 ≡ suc (length (z ∷ zs) - 1) = omega arith in
-        subst (λ i. get_or (x ∷ z ∷ zs) i 0 < y) e (h (omega arith))) in
+    let e : length (x ∷ z ∷ zs) - 1 ≡ suc (length (z ∷ zs) - 1) = omega arith in
+    subst (λ i. get_or (x ∷ z ∷ zs) i 0 < y) e (h (omega arith))) in
     ((less, all_weaker (λ w. z < w) (λ w. x < w) (λ w g. omega arith) (zs ++ y ∷ []) rest.0), rest)
 
 -- ---- lists that have no number in common

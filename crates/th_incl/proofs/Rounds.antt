@@ -99,13 +99,12 @@ pub kept_stopped : (s : System) (limit i at : ℕ) (w w' : Work) (front queue : 
     → Inv (constraints_of s) w'.sets.items w'.news.items × (w'.pairs ≡ pair_count w'.sets.items) × Queued s.sets w'.news.items queue []
 kept_stopped s limit i at w w' front queue ok lt t q inside e =
     let in_news : i < length w.news.items = omega (arith, lt, ok.inv.news_len) in
-    let same = stopped_same limit i w w' in_news t in
-    (
+    let same = stopped_same limit i w w' in_news t in (
       subst (λ z. Inv (constraints_of s) z w'.news.items) (sym t.sets)
-      (same_inv (constraints_of s) w.sets.items w.news.items w'.news.items (ap length t.news ∙ length-set w.news.items i (set_at w'.news.items i)) same ok.inv),
+          (same_inv (constraints_of s) w.sets.items w.news.items w'.news.items (ap length t.news ∙ length-set w.news.items i (set_at w'.news.items i)) same ok.inv),
       t.pairs ∙ ok.pairs ∙ ap pair_count (sym t.sets),
       subst (λ z. Queued s.sets w'.news.items z []) (ap (λ z. z ++ front) (sym t.queue) ∙ sym e)
-      (queue_back s.sets w.news.items w'.news.items w.queue.items front at q inside same),
+          (queue_back s.sets w.news.items w'.news.items w.queue.items front at q inside same),
     )
 
 pub over_stopped : (s : System) (limit i : ℕ) (w w' : Work) → IsConsistent s w → i < s.sets → Stops limit i w w' → IsOver (constraints_of s) limit

@@ -183,7 +183,7 @@ steps_by s i w mid w' fresh ok lt t sets_are pairs_are p idle =
     let asc : IsAscending (set_at mid.sets.items i) = subst (λ l. IsAscending l) (sym one.here) (IsAscending-union_of (set_at w.sets.items i) fresh (v.ascending i)) in
     let inv : Inv (constraints_of s) mid.sets.items w'.news.items =
     step_inv (constraints_of s) s.out.items i w.sets.items w.news.items mid.sets.items mid.news.items w'.news.items fresh mid.queue.items w'.queue.items
-      ok.tables v rows (ap length t.news ∙ length-set w.news.items i []) asc one p in
+    ok.tables v rows (ap length t.news ∙ length-set w.news.items i []) asc one p in
     let sum : pair_count mid.sets.items ≡ pair_count w.sets.items + length fresh = ap pair_count t.sets ∙ pairs_set w.sets.items i both (length fresh) in_sets longer in
     let left : room mid.sets.items + length fresh ≡ room w.sets.items = ap (λ z. room z + length fresh) t.sets ∙ room_set w.sets.items i both (length fresh) in_sets longer t.fits in
     record {

@@ -22,3 +22,6 @@ mod work;
 
 pub use constraints::{Constraints, Inclusion};
 pub use solver::{Solver, solve};
+
+#[cfg(test)]
+mod tests;

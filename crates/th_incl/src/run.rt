@@ -74,12 +74,7 @@ fn step(
 
 // Makes a step for each set of the queue, while a new queue gathers. The answer is false where the
 // limit was reached.
-fn round(
-    alloc: Global,
-    system: &System,
-    work: &mut Work,
-    limit: u64,
-) -> Result<bool, AllocError>
+fn round(alloc: Global, system: &System, work: &mut Work, limit: u64) -> Result<bool, AllocError>
     requires kept { Kept system.now work.old }
     requires within { work.old.pairs ≤ limit }
     ensures kept { OnOk result (Kept system.now work.new) }

@@ -21,4 +21,4 @@ loop-inclusion-preserved c =
     rw (take_more c.args.out.now c.loop-inclusion.inclusion-index no_inclusion c.loop-inclusion-test.true)
     (spreads_more c.args.sets.now c.args.filters.now _ _ c.args.fresh.now _ c.loop-inclusion.news _ _ c.loop-inclusion.queue.items _ c.loop-inclusion.invariant
     (delivers c.args.sets.now c.args.filters.now _ c.args.fresh.now c.loop-inclusion.news _ c.loop-inclusion.queue.items _ (subst (λ n. (get_or c.args.out.now c.loop-inclusion.inclusion-index no_inclusion).to < n) (sym c.loop-inclusion.invariant.news_len)
-      (c.requires.news _ (Contains-get_or c.args.out.now c.loop-inclusion.inclusion-index no_inclusion c.loop-inclusion-test.true))) c.in_ok-deliver.ensures))
+    (c.requires.news _ (Contains-get_or c.args.out.now c.loop-inclusion.inclusion-index no_inclusion c.loop-inclusion-test.true))) c.in_ok-deliver.ensures))
