@@ -8,6 +8,7 @@ pub mod Heaps
 pub mod ListedFacts
 pub mod Listings
 pub mod Nests
+pub mod NumberedFields
 pub mod New
 pub mod Plain
 pub mod Ranges
