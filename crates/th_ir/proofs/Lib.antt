@@ -24,6 +24,7 @@ pub mod Touches
 pub mod WholeCalls
 pub mod WorkedChartedForm
 pub mod WorkedChartedRun
+pub mod WorkedEffects
 pub mod WorkedGraphs
 pub mod WorkedHandlers
 pub mod WorkedInitialisingFacts
