@@ -8,6 +8,7 @@ pub mod Heaps
 pub mod ListedFacts
 pub mod Listings
 pub mod Nests
+pub mod NumberedFields
 pub mod New
 pub mod Plain
 pub mod Ranges
@@ -23,6 +24,7 @@ pub mod Touches
 pub mod WholeCalls
 pub mod WorkedChartedForm
 pub mod WorkedChartedRun
+pub mod WorkedEffects
 pub mod WorkedGraphs
 pub mod WorkedHandlers
 pub mod WorkedInitialisingFacts

@@ -48,6 +48,10 @@ kind_of descriptor = if is_reference descriptor then Some Ref else if is_int des
 abbrev pub is_kept : List ℕ → Bool
 is_kept descriptor = is_reference descriptor || is_int descriptor
 
+-- the field belongs to instances, and is kept
+abbrev pub is_kept_instance : FieldInfo → Bool
+is_kept_instance field = not field.is_static && is_kept field.descriptor
+
 -- what a field holds; none for a long and for what is no field
 abbrev pub field_kind : List ClassInfo → ℕ → Option FieldKind
 field_kind h f =
@@ -68,7 +72,7 @@ is_static_field h f = option_map_or (λ d. d.1.is_static && is_kept d.1.descript
 
 -- an instance field of the register form: a declared one, or the stage
 abbrev pub is_instance_field : List ClassInfo → ℕ → Bool
-is_instance_field h f = f == stage_field || option_map_or (λ d. not d.1.is_static && is_kept d.1.descriptor) (field_at h f) false
+is_instance_field h f = f == stage_field || option_map_or (λ d. is_kept_instance d.1) (field_at h f) false
 
 -- a static field that a class of a file declares
 abbrev pub is_file_static : List ClassInfo → ℕ → Bool
@@ -79,7 +83,7 @@ is_file_static h f = option_map_or (λ d. d.1.is_static && nat_le BUILT_IN_COUNT
 abbrev pub class_has : List ClassInfo → ℕ → ℕ → Bool
 class_has h c f =
     if f == stage_field then is_launchable h c
-    else option_map_or (λ d. (not d.1.is_static && is_kept d.1.descriptor) && is_subclass h c d.0) (field_at h f) false
+    else option_map_or (λ d. is_kept_instance d.1 && is_subclass h c d.0) (field_at h f) false
 
 -- the objects or arrays of a site have the field
 abbrev pub has_field : List ClassInfo → RegProgram → ℕ → ℕ → Bool

@@ -23,6 +23,7 @@ pub mod Unchanged
 pub mod WellFormed
 pub mod Worked
 pub mod WorkedCharted
+pub mod WorkedEffects
 pub mod WorkedGraph
 pub mod WorkedInitialising
 pub mod WorkedNaming

@@ -17,6 +17,7 @@ ghost use Rattle.th_ir.specs.Summaries.{HoldsSums, ModSets};
 ghost use Rattle.th_ir.specs.Unchanged.{IsPassed, IsUnchanged, IsWithinCall, last_of};
 ghost use Rattle.th_ir.specs.WellFormed.{IsWellFormed};
 
+pub mod effects;
 pub mod listings;
 pub mod worked;
 

@@ -19,7 +19,7 @@ mod program;
 mod stmt;
 
 pub use facts::{Facts, Mods};
-pub use field::{FieldKind, LENGTH, STAGE};
+pub use field::{FieldKind, LENGTH, STAGE, class_has, field_kind, field_known, has_field};
 pub use graph::{Alarm, Edge, Graph, Producer};
 pub use harness::{HarnessKind, harness_kind};
 pub use plan::{MOST_ALARMS, MOST_EDGES, MOST_NODES, MOST_PAIRS, MOST_REGISTERS, MOST_SITES, Plan};

@@ -1,6 +1,9 @@
 // All that the searches of a program need.
+ghost use Rattle.std.specs.Prelude.{◌≡◌, ◌↔◌, IsTrue};
+
 use crate::{Alarm, Facts, Graph, Mods, RegProgram};
-use th_base::{Hierarchy, Seq};
+use std::alloc::{AllocError, Global};
+use th_base::{ClassInfo, Hierarchy, Same, Seq, TryCopy};
 
 /// How many nodes a program has at most.
 pub const MOST_NODES: u32 = 1_000_000;
@@ -37,4 +40,45 @@ pub struct Plan {
     pub alarms: Seq<Alarm>,
     /// How many steps each search may take.
     pub budget: u32,
+}
+
+impl TryCopy for Plan {
+    fn try_copy(&self, alloc: Global) -> Result<Plan, AllocError> {
+        Ok(Plan {
+            program: self.program.try_copy(alloc)?,
+            hierarchy: self.hierarchy.copy(alloc)?,
+            facts: self.facts.try_copy(alloc)?,
+            mods: self.mods.try_copy(alloc)?,
+            graph: self.graph.try_copy(alloc)?,
+            alarms: self.alarms.try_copy(alloc)?,
+            budget: self.budget,
+        })
+    }
+}
+
+impl Same for Plan {
+    fn same(&self, other: &Plan) -> bool {
+        self.program.same(&other.program)
+            && are_same_classes(self.hierarchy.classes(), other.hierarchy.classes())
+            && self.facts.same(&other.facts)
+            && self.mods.same(&other.mods)
+            && self.graph.same(&other.graph)
+            && self.alarms.same(&other.alarms)
+            && self.budget == other.budget
+    }
+}
+
+// Whether two lists of classes are the same.
+fn are_same_classes(left: &[ClassInfo], right: &[ClassInfo]) -> bool
+    ensures { IsTrue result ↔ (left.now ≡ right.now) }
+{
+    if left.len() != right.len() {
+        return false;
+    }
+    for i in 0..left.len() {
+        if !left[i].same(&right[i]) {
+            return false;
+        }
+    }
+    true
 }

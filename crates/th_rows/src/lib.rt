@@ -7,6 +7,8 @@
 #[cfg(test)]
 mod files;
 #[cfg(test)]
+mod plans;
+#[cfg(test)]
 mod register_form;
 #[cfg(test)]
 mod runs;

@@ -114,7 +114,7 @@ fn places(alloc: Global) -> Result<Seq<Place>, AllocError> {
     Ok(all)
 }
 
-fn edges(alloc: Global) -> Result<Seq<Edge>, AllocError> {
+pub(crate) fn edges(alloc: Global) -> Result<Seq<Edge>, AllocError> {
     let mut all = Seq::new(alloc);
     all.push(Edge::Static(FieldId(0), SiteId(1)))?;
     all.push(Edge::Field(SiteId(0), FieldId(1), SiteId(1)))?;
@@ -131,7 +131,7 @@ fn set(alloc: Global, members: &[u32]) -> Result<IdSet, AllocError> {
     Ok(set)
 }
 
-fn program(alloc: Global) -> Result<RegProgram, AllocError> {
+pub(crate) fn program(alloc: Global) -> Result<RegProgram, AllocError> {
     let mut nodes = Seq::new(alloc);
     nodes.push(Node {
         method: MethodId(0),
@@ -170,7 +170,7 @@ fn program(alloc: Global) -> Result<RegProgram, AllocError> {
     })
 }
 
-fn facts(alloc: Global) -> Result<Facts, AllocError> {
+pub(crate) fn facts(alloc: Global) -> Result<Facts, AllocError> {
     let mut regs = Seq::new(alloc);
     regs.push(set(alloc, &[0, 2])?)?;
     let mut cells = Seq::new(alloc);
