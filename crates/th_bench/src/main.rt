@@ -6,6 +6,7 @@
 #![tactic(auto)]
 
 mod classes;
+mod inclusions;
 mod sets;
 mod stores;
 
@@ -20,6 +21,9 @@ fn counted(alloc: Global, name: &str, size: u32) -> Result<Option<u64>, AllocErr
         "fields" => Ok(Some(classes::fields(alloc, size)?)),
         "subclasses" => Ok(Some(classes::subclasses(alloc, size)?)),
         "repeats" => Ok(Some(classes::repeats(alloc, size)?)),
+        "chain" => Ok(Some(inclusions::chain(alloc, size as usize)?)),
+        "grid" => Ok(Some(inclusions::grid(alloc, size)?)),
+        "runs" => Ok(Some(inclusions::runs(alloc, size)?)),
         _ => Ok(None),
     }
 }
@@ -38,7 +42,15 @@ fn run(rt: &(impl Print + AllocGlobal), name: &str, size: u32) -> io::Result<()>
             io::Write::write_all(&mut io::writer(rt), file.as_slice())
         }
         "all" => {
-            for each in ["merges", "fields", "subclasses", "repeats"] {
+            for each in [
+                "merges",
+                "fields",
+                "subclasses",
+                "repeats",
+                "chain",
+                "grid",
+                "runs",
+            ] {
                 print_counted(rt, each, size)?;
             }
             Ok(())
