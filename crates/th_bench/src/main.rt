@@ -6,12 +6,24 @@
 #![tactic(auto)]
 
 mod classes;
+mod refutations;
 mod sets;
 mod stores;
 
 use std::alloc::{AllocError, Global};
 use std::rt::Env;
 use std::{env, io};
+
+// The workloads that count.
+const WORKLOADS: [&str; 7] = [
+    "merges",
+    "fields",
+    "subclasses",
+    "repeats",
+    "few_facts",
+    "some_facts",
+    "worst_facts",
+];
 
 // What a workload counted; none where no workload has the name.
 fn counted(alloc: Global, name: &str, size: u32) -> Result<Option<u64>, AllocError> {
@@ -20,6 +32,9 @@ fn counted(alloc: Global, name: &str, size: u32) -> Result<Option<u64>, AllocErr
         "fields" => Ok(Some(classes::fields(alloc, size)?)),
         "subclasses" => Ok(Some(classes::subclasses(alloc, size)?)),
         "repeats" => Ok(Some(classes::repeats(alloc, size)?)),
+        "few_facts" => Ok(Some(refutations::few_facts(alloc, size)?)),
+        "some_facts" => Ok(Some(refutations::some_facts(alloc, size)?)),
+        "worst_facts" => Ok(Some(refutations::worst_facts(alloc, size)?)),
         _ => Ok(None),
     }
 }
@@ -38,7 +53,7 @@ fn run(rt: &(impl Print + AllocGlobal), name: &str, size: u32) -> io::Result<()>
             io::Write::write_all(&mut io::writer(rt), file.as_slice())
         }
         "all" => {
-            for each in ["merges", "fields", "subclasses", "repeats"] {
+            for each in WORKLOADS {
                 print_counted(rt, each, size)?;
             }
             Ok(())
