@@ -7,12 +7,27 @@
 
 mod classes;
 mod inclusions;
+mod refutations;
 mod sets;
 mod stores;
 
 use std::alloc::{AllocError, Global};
 use std::rt::Env;
 use std::{env, io};
+
+// The workloads that count.
+const WORKLOADS: [&str; 10] = [
+    "merges",
+    "fields",
+    "subclasses",
+    "repeats",
+    "chain",
+    "grid",
+    "runs",
+    "few_facts",
+    "some_facts",
+    "worst_facts",
+];
 
 // What a workload counted; none where no workload has the name.
 fn counted(alloc: Global, name: &str, size: u32) -> Result<Option<u64>, AllocError> {
@@ -24,6 +39,9 @@ fn counted(alloc: Global, name: &str, size: u32) -> Result<Option<u64>, AllocErr
         "chain" => Ok(Some(inclusions::chain(alloc, size as usize)?)),
         "grid" => Ok(Some(inclusions::grid(alloc, size)?)),
         "runs" => Ok(Some(inclusions::runs(alloc, size)?)),
+        "few_facts" => Ok(Some(refutations::few_facts(alloc, size)?)),
+        "some_facts" => Ok(Some(refutations::some_facts(alloc, size)?)),
+        "worst_facts" => Ok(Some(refutations::worst_facts(alloc, size)?)),
         _ => Ok(None),
     }
 }
@@ -42,15 +60,7 @@ fn run(rt: &(impl Print + AllocGlobal), name: &str, size: u32) -> io::Result<()>
             io::Write::write_all(&mut io::writer(rt), file.as_slice())
         }
         "all" => {
-            for each in [
-                "merges",
-                "fields",
-                "subclasses",
-                "repeats",
-                "chain",
-                "grid",
-                "runs",
-            ] {
+            for each in WORKLOADS {
                 print_counted(rt, each, size)?;
             }
             Ok(())
