@@ -139,8 +139,9 @@ edge_is_listed h facts edges all (Element x y) has =
 pub is_graph : (h : List ClassInfo) (facts : Facts) (edges : List Edge) → list_all (edge_test h facts) edges ≡ true → facts_listed facts edges ≡ true
     → order_test (map edge_key edges) ≡ true → IsGraph h (sets_of facts) edges
 is_graph h facts edges have all order = record {
-  edges_are = λ e.
-      (λ among. has_edge h facts e (all_tested (edge_test h facts) edges among.0 e have among.1),
-        λ has. listed_among edges e (edge_is_listed h facts edges all e has));
+  edges_are = λ e. (
+    λ among. has_edge h facts e (all_tested (edge_test h facts) edges among.0 e have among.1),
+    λ has. listed_among edges e (edge_is_listed h facts edges all e has),
+  );
   ascend = in_order (map edge_key edges) order;
 }
