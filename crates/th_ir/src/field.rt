@@ -81,12 +81,7 @@ pub fn class_has(hierarchy: &Hierarchy, class: ClassId, field: FieldId) -> bool
 
 /// Whether the objects or arrays of a site have the field. It costs a look-up of the site's class by
 /// its name, and that of `class_has`; a loop that asks often keeps the class of each site.
-pub fn has_field(
-    hierarchy: &Hierarchy,
-    program: &RegProgram,
-    site: SiteId,
-    field: FieldId,
-) -> bool
+pub fn has_field(hierarchy: &Hierarchy, program: &RegProgram, site: SiteId, field: FieldId) -> bool
     ensures { AreNumbered hierarchy.now → result ≡ has_field hierarchy.now program.now site.0 field.0 }
 {
     match program.sites.get(site.0 as usize) {
@@ -146,9 +141,7 @@ fn is_launchable(hierarchy: &Hierarchy, class: ClassId) -> bool
 fn can_be_made(class: &ClassInfo) -> bool
     ensures { result ≡ can_be_made class.now }
 {
-    !class.is_abstract
-        && !class.is_interface
-        && has_launch_constructor(class.methods.as_slice())
+    !class.is_abstract && !class.is_interface && has_launch_constructor(class.methods.as_slice())
 }
 
 // Whether one of the methods is such a constructor.
