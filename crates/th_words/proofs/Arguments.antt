@@ -1,5 +1,5 @@
 -- What `clap` builds of the arguments that it is told of, for any list of options.
-use Rattle.std.proofs.Common.{◌≡◌, ℕ, ◌&&◌, ◌||◌, Bool, true, false, not, cond, List, [], ◌∷◌, ◌++◌, map, Option, Some, None, is_some, refl, ap, sym, ◌∙◌, eqb, ◌+◌, ◌<◌, ap₂, length, take, get_or, Bor, arith}
+use Rattle.std.proofs.Common.{◌≡◌, ℕ, ◌&&◌, Bool, true, false, not, cond, List, [], ◌∷◌, ◌++◌, map, Option, Some, None, is_some, refl, ap, sym, ◌∙◌, eqb, ◌+◌, ◌<◌, ap₂, length, take, get_or, Bor, arith}
 use Rattle.std.specs.Prelude.{find, count_by}
 use Rattle.std.proofs.lemmas.List.{map_more, map-append}
 use Rattle.std.specs.List.{list_any, list_all, before_first, after_first, position_or_len}
@@ -9,7 +9,7 @@ use Rattle.clap.specs.Walk.{Rule, arg_by_id, arg_by_long, arg_by_index, is_early
 use Rattle.clap.specs.Words.{with_rule}
 use Rattle.clap.specs.Simple.{App, Shape, built, filled, filled_from, with_index, is_simple}
 use Rattle.clap.specs.Lexer.{long_of}
-use Rattle.th_base.proofs.Booleans.{or_false, and_true}
+use Rattle.th_base.proofs.Booleans.{or_false}
 use Rattle.th_words.specs.Pieces.{Word, option_word}
 use Rattle.th_words.specs.Told.{operands_name, is_option_name, option_rule, operands_rule, app_with, app_told}
 use Rattle.th_words.proofs.WellFormed.{by_test}

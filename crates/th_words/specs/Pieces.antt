@@ -1,20 +1,20 @@
 -- How the words after a command are cut into options with their values, and operands.
 use Rattle.std.specs.Prelude.{◌≡◌, ℕ, ◌==◌, ◌&&◌, ◌||◌, Bool, true, false, not, List, [], ◌∷◌, Option, Some, None, is_some, find, option_and_then, option_map, if◌then◌else◌}
 use Rattle.std.specs.List.{list_all, list_any}
-use Rattle.std.specs.Str.{bytes_eq}
+use Rattle.std.specs.Str.{byte, bytes_eq}
 
 -- a word, as its bytes
 abbrev pub Word : Type 0
 Word = List ℕ
 
--- a word that may be a value or an operand: it isn't empty, and doesn't begin with `-` (45)
+-- a word that may be a value or an operand: it isn't empty, and doesn't begin with `-`
 abbrev pub is_plain : Word → Bool
 is_plain [] = false
-is_plain (first ∷ rest) = not (first == 45)
+is_plain (first ∷ rest) = not (first == byte "-")
 
 -- the word for the option of this name: `--name`
 abbrev pub option_word : Word → Word
-option_word name = 45 ∷ 45 ∷ name
+option_word name = byte "-" ∷ byte "-" ∷ name
 
 -- which of the options of these names a word stands for
 abbrev pub option_named : List Word → Word → Option Word

@@ -31,7 +31,8 @@ values_of (option ∷ options) given =
 -- the command of a row with these values given and these operands
 abbrev pub command_from : CommandRow → (Word → Option Word) → List Word → Option Command
 command_from row given operands =
-    if operands_pass row.operands given operands then option_and_then (λ values. row.command values operands) (values_of row.options given) else None
+    if operands_pass row.operands given operands then option_and_then (λ values. row.command values operands) (values_of row.options given)
+    else None
 
 -- the command of a row that the words after its name ask for
 abbrev pub command_in : CommandRow → List Word → Option Command
@@ -41,4 +42,5 @@ command_in row words =
 -- the command that the words ask for, or what is wrong with them
 abbrev pub command_of : List Word → Result Command UsageFault
 command_of [] = Err NoCommand
-command_of (word ∷ words) = option_map_or (λ row. ok_or (command_in row words) BadWords) (find (λ row. bytes_eq row.name word) table) (Err UnknownCommand)
+command_of (word ∷ words) =
+    option_map_or (λ row. ok_or (command_in row words) BadWords) (find (λ row. bytes_eq row.name word) table) (Err UnknownCommand)

@@ -1,7 +1,7 @@
 -- What `clap` is told of a command, and what it is to find in the words.
 use Rattle.std.specs.Prelude.{◌≡◌, ◌==◌, ◌&&◌, Bool, true, false, not, List, [], ◌∷◌, ◌++◌, map, Some, codes, option_map, unwrap_or}
 use Rattle.std.specs.List.{list_any}
-use Rattle.std.specs.Str.{bytes_eq}
+use Rattle.std.specs.Str.{byte, bytes_eq}
 use Rattle.clap.specs.Words.{App, Rule, new_app, new_rule, first_value, matched_of, raw_values}
 use Rattle.clap.specs.Simple.{on_top}
 use Rattle.clap.specs.declared.builder.action.ArgAction.TheVariants.{Set, Append}
@@ -12,10 +12,10 @@ use Rattle.th_words.specs.Pieces.{Word, Piece, pieces_of, value_given, operands_
 abbrev pub operands_name : Word
 operands_name = codes "operands"
 
--- a name that an option may have: not empty, without `=` (61), and not that of the operands
+-- a name that an option may have: not empty, without `=`, and not that of the operands
 abbrev pub is_option_name : Word → Bool
 is_option_name [] = false
-is_option_name (first ∷ rest) = not (list_any (λ x. x == 61) (first ∷ rest)) && not (bytes_eq (first ∷ rest) operands_name)
+is_option_name (first ∷ rest) = not (list_any (λ x. x == byte "=") (first ∷ rest)) && not (bytes_eq (first ∷ rest) operands_name)
 
 -- an option `--name` with one value
 abbrev pub option_rule : Word → Rule

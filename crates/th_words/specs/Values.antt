@@ -7,6 +7,7 @@ use Rattle.std.specs.Str.Parse.{digits_value}
 use Rattle.th_base.specs.declared.lifecycle.Lifecycle.{Lifecycle}
 use Rattle.th_base.specs.declared.lifecycle.Lifecycle.TheVariants.{Any, Chart}
 use Rattle.th_words.specs.Pieces.{Word}
+use Rattle.th_words.specs.declared.values.TheConstants.{MOST_DIGITS}
 
 -- what the value of an option must be, and what stands in its place where the option isn't given
 pub data Kind : Type 0 where
@@ -25,14 +26,15 @@ pub data Value : Type 0 where
   file : Option Word → Value
   lifecycle : Lifecycle → Value
 
--- 1 to 9 decimal digits
+-- one decimal digit or more, and no more than a number may have
 abbrev pub is_number : Word → Bool
-is_number text = list_all is_ascii_digit text && (nat_le 1 (length text) && nat_le (length text) 9)
+is_number text = list_all is_ascii_digit text && (nat_le 1 (length text) && nat_le (length text) MOST_DIGITS)
 
 -- the number that a text writes, if it lies in the range
 abbrev pub number_of : ℕ → ℕ → Word → Option ℕ
 number_of lowest highest text =
-    if is_number text && (nat_le lowest (digits_value 10 text) && nat_le (digits_value 10 text) highest) then Some (digits_value 10 text) else None
+    if is_number text && (nat_le lowest (digits_value 10 text) && nat_le (digits_value 10 text) highest) then Some (digits_value 10 text)
+    else None
 
 -- the lifecycle of this name
 abbrev pub lifecycle_of : Word → Option Lifecycle

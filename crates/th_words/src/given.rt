@@ -48,9 +48,9 @@ fn parsed<'a>(
     told(alloc, names)?.try_get_matches_from(words)
 }
 
-/// The values and the operands that the words give, of a command with options of these names.
-///
-/// Refuses words that are not such options, each at most once and with a value, and operands.
+// The values and the operands that the words give, of a command with options of these names.
+//
+// Refuses words that are not such options, each at most once and with a value, and operands.
 pub(crate) fn given<'a>(
     alloc: Global,
     names: &[&'a str],

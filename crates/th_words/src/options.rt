@@ -39,17 +39,17 @@ pub(crate) const SCRIPT: &str = "script";
 
 pub(crate) const LIFECYCLE: &str = "lifecycle";
 
-/// The name under which `clap` keeps the operands.
+// The name under which `clap` keeps the operands.
 pub(crate) const OPERANDS: &str = "operands";
 
-/// `--budget`: how many steps the search for one edge may make.
+// `--budget`: how many steps the search for one edge may make.
 pub(crate) fn budget(matches: &ArgMatches<'_>) -> Option<u32>
     ensures { option_map (λ n. number n) result ≡ value_of budget_option.kind (first_value (found_of matches.now) budget_option.name) }
 {
     number_given(matches.get_str(BUDGET), 0, MOST_BUDGET, DEFAULT_BUDGET)
 }
 
-/// `--workers`: how many workers search.
+// `--workers`: how many workers search.
 pub(crate) fn workers(matches: &ArgMatches<'_>) -> Option<u32>
     ensures { option_map (λ n. number n) result ≡ value_of workers_option.kind (first_value (found_of matches.now) workers_option.name) }
 {
@@ -61,28 +61,28 @@ pub(crate) fn workers(matches: &ArgMatches<'_>) -> Option<u32>
     )
 }
 
-/// `--fuel`: how many steps all events together may make.
+// `--fuel`: how many steps all events together may make.
 pub(crate) fn fuel(matches: &ArgMatches<'_>) -> Option<u32>
     ensures { option_map (λ n. number n) result ≡ value_of fuel_option.kind (first_value (found_of matches.now) fuel_option.name) }
 {
     number_given(matches.get_str(FUEL), 0, MOST_FUEL, DEFAULT_FUEL)
 }
 
-/// `--lifecycle`: the order in which handlers may be called.
+// `--lifecycle`: the order in which handlers may be called.
 pub(crate) fn lifecycle(matches: &ArgMatches<'_>) -> Option<Lifecycle>
     ensures { option_map (λ l. lifecycle l) result ≡ value_of lifecycle_option.kind (first_value (found_of matches.now) lifecycle_option.name) }
 {
     lifecycle_given(matches.get_str(LIFECYCLE))
 }
 
-/// `--list`: the file that lists further class files, if it is given.
+// `--list`: the file that lists further class files, if it is given.
 pub(crate) fn list(alloc: Global, matches: &ArgMatches<'_>) -> Result<Option<Name>, AllocError>
     ensures { IfOk result (λ name. name ≡ first_value (found_of matches.now) list_option.name) }
 {
     file_given(alloc, matches.get_str(LIST))
 }
 
-/// The operands, in order.
+// The operands, in order.
 pub(crate) fn operands(alloc: Global, matches: &ArgMatches<'_>) -> Result<Seq<Name>, AllocError>
     ensures { IfOk result (λ names. names ≡ operands_found (found_of matches.now)) }
 {

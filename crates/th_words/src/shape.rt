@@ -42,7 +42,7 @@ fn stands_again(words: &[String], at: usize, word: &str) -> bool
         .any(|other| other.as_str() == word)
 }
 
-/// Whether the words are options of these names, each at most once and with a value, and operands.
+// Whether the words are options of these names, each at most once and with a value, and operands.
 pub(crate) fn is_well_formed(names: &[&str], words: &[String]) -> bool
     ensures { result ≡ is_some (pieces_of (map (λ n. n.now) names.now) (map string_bytes words.now)) }
 {

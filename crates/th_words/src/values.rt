@@ -8,6 +8,9 @@ ghost use Rattle.th_words.specs.Values.{is_number, number_of, value_of, number_i
 use std::alloc::{AllocError, Global};
 use th_base::{Lifecycle, Name, Seq};
 
+// A number has no more digits, leading zeros included.
+const MOST_DIGITS: usize = 9;
+
 // Whether a text has decimal digits alone.
 fn has_digits_alone(text: &str) -> bool
     ensures { result ≡ list_all is_ascii_digit text.now }
@@ -20,7 +23,7 @@ fn writes_number(text: &str) -> bool
     ensures { result ≡ is_number text.now }
 {
     let length = text.len();
-    has_digits_alone(text) && 1 <= length && length <= 9
+    has_digits_alone(text) && 1 <= length && length <= MOST_DIGITS
 }
 
 // The number that a text of 1 to 9 decimal digits writes.
@@ -49,7 +52,7 @@ fn number_within(text: &str, lowest: u32, highest: u32) -> Option<u32>
     }
 }
 
-/// The value of an option for a number; the default where it isn't given, and none for another text.
+// The value of an option for a number; the default where it isn't given, and none for another text.
 pub(crate) fn number_given(
     text: Option<&str>,
     lowest: u32,
@@ -64,7 +67,7 @@ pub(crate) fn number_given(
     }
 }
 
-/// The value of the option for a lifecycle; any where it isn't given, and none for another text.
+// The value of the option for a lifecycle; any where it isn't given, and none for another text.
 pub(crate) fn lifecycle_given(text: Option<&str>) -> Option<Lifecycle>
     ensures { option_map (λ l. lifecycle l) result ≡ value_of lifecycle_name (option_map (λ t. t.now) text.entry) }
 {
@@ -76,7 +79,7 @@ pub(crate) fn lifecycle_given(text: Option<&str>) -> Option<Lifecycle>
     }
 }
 
-/// A copy of the value of an option for a file, where it is given.
+// A copy of the value of an option for a file, where it is given.
 pub(crate) fn file_given(alloc: Global, text: Option<&str>) -> Result<Option<Name>, AllocError>
     ensures { IfOk result (λ name. name ≡ option_map (λ t. t.now) text.entry) }
 {
@@ -86,7 +89,7 @@ pub(crate) fn file_given(alloc: Global, text: Option<&str>) -> Result<Option<Nam
     }
 }
 
-/// A copy of each text, as a name.
+// A copy of each text, as a name.
 pub(crate) fn names_of(alloc: Global, texts: &[&str]) -> Result<Seq<Name>, AllocError>
     ensures { IfOk result (λ names. names ≡ map (λ t. t.now) texts.entry.now) }
 {
