@@ -61,7 +61,8 @@ OneGathering = (terms : List (ℕ × ℤ)) (constant : ℤ) (rel : Rel) (r : For
 
 -- where a magnitude of it reaches 2^62 there is none
 abbrev pub NoLargeGathering : Type 0
-NoLargeGathering = (terms : List (ℕ × ℤ)) (constant : ℤ) (rel : Rel) → IsTooLargeTotal terms constant → gathered_form terms constant rel ≡ None
+NoLargeGathering = (terms : List (ℕ × ℤ)) (constant : ℤ) (rel : Rel) → IsTooLargeTotal terms constant
+    → gathered_form terms constant rel ≡ None
 
 -- and their order doesn't count
 abbrev pub OrderIsFree : Type 0

@@ -11,7 +11,7 @@ use std::marker::Model;
 /// All magnitudes of a fact are below this.
 pub const MAGNITUDE_LIMIT: u128 = 1 << 62;
 
-//// How a sum stands to 0: it is 0, at most 0, or not 0.
+/// How a sum stands to 0: it is 0, at most 0, or not 0.
 #[derive(Clone, Copy, Debug, PartialEq, Eq)]
 pub enum Rel {
     /// The sum is 0.

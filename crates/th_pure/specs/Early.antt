@@ -21,7 +21,8 @@ AnswerAlike o p = (vs : List ℕ) → and_then o (λ gs. eliminated_all vs gs) �
 abbrev pub answer_after : progress.Progress → List (Option Form) → List ℕ → Outcome
 answer_after progress.TheVariants.TooLarge os vs = Undecided
 answer_after progress.TheVariants.FoundFalse os vs = and_then (all_made os) (λ _. Refuted)
-answer_after (progress.TheVariants.Open kept) os vs = and_then (and_then (all_made os) divided_all) (λ new. eliminated_all vs (put_after kept new))
+answer_after (progress.TheVariants.Open kept) os vs =
+    and_then (and_then (all_made os) divided_all) (λ new. eliminated_all vs (put_after kept new))
 
 -- further facts are kept
 abbrev pub HasRoom : progress.Progress → Type 0

@@ -12,7 +12,8 @@ use Rattle.th_pure.specs.Solutions.{HaveNoSolution}
 
 -- where the refuter says yes, no integers in the ranges satisfy the facts
 abbrev pub RefutedHaveNoSolution : Type 0
-RefutedHaveNoSolution = (facts : List Form) (ranges : List Range) → All IsFact facts → IsTrue (refuted facts ranges) → HaveNoSolution facts ranges
+RefutedHaveNoSolution = (facts : List Form) (ranges : List Range) → All IsFact facts → IsTrue (refuted facts ranges)
+    → HaveNoSolution facts ranges
 
 -- after the rounds no equation has a coefficient 1 or -1
 abbrev pub RoundsEnd : Type 0
@@ -44,4 +45,5 @@ VariablesStand = (fs : List Form) → AreAscending 0 (variables fs) × ((v : ℕ
 
 -- two facts combined no longer have the variable
 abbrev pub VariableVanishes : Type 0
-VariableVanishes = (v : ℕ) (a b r : Form) → IsFact a → IsFact b → IsUpper v a → IsLower v b → vanishing v a b ≡ Some r → coef v r.coefs ≡ pos 0
+VariableVanishes = (v : ℕ) (a b r : Form) → IsFact a → IsFact b → IsUpper v a → IsLower v b → vanishing v a b ≡ Some r
+    → coef v r.coefs ≡ pos 0

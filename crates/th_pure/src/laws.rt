@@ -8,6 +8,7 @@ use th_linear::laws::{one_sum, steps_keep};
 pub fn refuted_have_no_solution()
     ensures { RefutedHaveNoSolution }
 {
+    // For the proof alone: what the steps keep.
     steps_keep();
 }
 
@@ -19,5 +20,6 @@ pub fn steps_mean()
     ensures variables { VariablesStand }
     ensures vanishes { VariableVanishes }
 {
+    // For the proof alone: what a sum of two facts is.
     one_sum();
 }

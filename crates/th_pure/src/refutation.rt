@@ -22,6 +22,7 @@ pub fn refutes(alloc: Global, facts: &[Lin], ranges: &[Range]) -> Result<bool, A
     ensures value { IfOk result (λ answer. answer ≡ refuted facts.now ranges.now) }
     ensures sound { IfOk result (λ answer. IsTrue answer → HaveNoSolution facts.now ranges.now) }
 {
+    // For the proof alone: that yes is right.
     refuted_have_no_solution();
     let outcome = outcome_of(alloc, facts, ranges)?;
     Ok(is_refuted(outcome))

@@ -151,8 +151,8 @@ fn substitute_in(
     ensures { IfOk result (λ o. o ≡ substituted fact variable by.now) }
 {
     if fact.coefficient(variable) == 0 {
+        // For the proof alone: that such a fact stays, and the forms of both facts.
         steps_keep();
-        // For the proof alone: the forms of both facts.
         let _terms = &fact.coefs;
         let _by_terms = &by.coefs;
         return Ok(Some(fact));
