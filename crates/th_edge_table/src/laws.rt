@@ -1,4 +1,4 @@
-// What holds after every list of events.
+//! What holds after every list of events.
 ghost use Rattle.std.specs.Prelude.{List, ℕ};
 ghost use Rattle.th_edge_table.specs.declared.state.CoreEvent.{CoreEvent};
 ghost use Rattle.th_edge_table.specs.Core.{opening, AllAllowed, replayed, word_at};

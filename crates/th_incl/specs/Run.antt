@@ -65,8 +65,10 @@ pub record Spreads (sets filters : List (List ℕ)) (out : List Inclusion) (fres
   pub news_len : length news' ≡ length news
   pub stays : (k x : ℕ) → In news k x → In news' k x
   pub only : (k x : ℕ) → In news' k x
-      → In news k x ⊎ ((j : Inclusion) × (Contains out j × (j.to ≡ k) × (has (missing fresh (set_at filters j.filter) (set_at sets k)) x ≡ true)))
-  pub every : (j : Inclusion) (x : ℕ) → Contains out j → has (missing fresh (set_at filters j.filter) (set_at sets j.to)) x ≡ true → In news' j.to x
+      → In news k x
+      ⊎ ((j : Inclusion) × (Contains out j × (j.to ≡ k) × (has (missing fresh (set_at filters j.filter) (set_at sets k)) x ≡ true)))
+  pub every : (j : Inclusion) (x : ℕ) → Contains out j → has (missing fresh (set_at filters j.filter) (set_at sets j.to)) x ≡ true
+      → In news' j.to x
   pub queue_stays : (k : ℕ) → has queue k ≡ true → has queue' k ≡ true
   pub queued : (k x : ℕ) → In news' k x → ((y : ℕ) × In news k y) ⊎ (has queue' k ≡ true)
   pub inside : (k : ℕ) → has queue' k ≡ true → (has queue k ≡ true) ⊎ (k < length news)

@@ -26,6 +26,7 @@ impl Model for Filter {
 }
 
 impl Filter {
+    // The filter that these numbers pass. Takes no memory.
     pub(crate) fn new(ids: IdSet) -> Filter
         ensures { result ≡ ids }
     {

@@ -1,4 +1,4 @@
-// What readers expect of least sets, over all constraints.
+//! What readers expect of least sets, over all constraints.
 ghost use Rattle.std.specs.Prelude.{◌≡◌, ◌≤◌, ℕ, Bool, true, false, List, length, All, Contains};
 ghost use Rattle.th_base.specs.IdSet.{IsAscending};
 ghost use Rattle.th_incl.specs.Least.{In, is_in, Reaches, IsLeast, IsClosed, IsInRange, TellsWithin, pair_count};
@@ -20,7 +20,8 @@ pub fn least_is_closed()
         → (i x : ℕ) → In sets i x → family i x ≡ true }
 {}
 
-/// There is one list of least sets, and each that is closed and within each closed family is it.
+/// There is at most one list of least sets, and each list that is closed and within each closed family
+/// is it.
 pub fn least_is_one()
     ensures one { (c : Constraints) (a b : List (List ℕ)) → IsLeast c a → IsLeast c b → a ≡ b }
     ensures by_families { (c : Constraints) (a b : List (List ℕ)) → IsLeast c a → length b ≡ c.sets → All IsAscending b → IsClosed c (is_in b)

@@ -40,6 +40,7 @@ impl News {
         }
     }
 
+    // Whether there are no numbers.
     pub(crate) fn is_empty(&self) -> bool
         ensures { IsTrue result ↔ (self.now ≡ []) }
     {

@@ -7,6 +7,7 @@ use crate::filter::Filter;
 use std::alloc::AllocError;
 use th_base::Seq;
 
+// All constraints so far, which a run leaves as they are.
 #[derive(Debug, Drop)]
 pub(crate) struct System {
     pub(crate) sets: usize,

@@ -8,6 +8,7 @@ use std::alloc::{AllocError, Global};
 use std::mem;
 use th_base::IdSet;
 
+// What a run changes: the sets, their news, and the queue of sets that have some.
 #[derive(Debug, Drop)]
 pub(crate) struct Work {
     pub(crate) sets: Vec<IdSet>,
@@ -45,13 +46,14 @@ pub(crate) fn absorb(sets: &mut Vec<IdSet>, set: usize, fresh: &IdSet) -> Result
     add_apart(&mut sets[set], fresh)
 }
 
+// Adds numbers to a set that has none of them.
 fn add_apart(set: &mut IdSet, fresh: &IdSet) -> Result<(), AllocError>
     requires { intersection_of set.old fresh.now ≡ [] }
     ensures union { OnOk result (set.new ≡ union_of set.old fresh.now) }
     ensures fits { OnOk result (length (union_of set.old fresh.now) < 2 ^ 64) }
 {
     set.insert_apart(fresh)?;
-    // For the proof, which takes from it how long a set can be.
+    // For the proof alone: how long a set can be.
     let _size = set.len();
     Ok(())
 }
