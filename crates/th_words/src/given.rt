@@ -8,7 +8,7 @@ ghost use Rattle.th_words.specs.Reading.{IfRefused};
 
 use crate::UsageFault;
 use crate::options::OPERANDS;
-use crate::shape::is_well_formed;
+use crate::word_shape::is_well_formed;
 use clap::error::ErrorKind;
 use clap::{Arg, ArgAction, ArgMatches, Command, Error};
 use std::alloc::{AllocError, Global};

@@ -16,8 +16,8 @@ mod given;
 pub mod laws;
 mod options;
 mod read;
-mod shape;
 mod values;
+mod word_shape;
 
 pub use command::{Command, UsageFault};
 pub use read::read_words;

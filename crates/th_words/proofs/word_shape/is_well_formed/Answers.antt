@@ -2,8 +2,8 @@ use Rattle.std.proofs.Common.{◌≡◌, ◌∙◌, ◌+◌, ap, sym, drop, map,
 use Rattle.std.proofs.Math.ListN.{drop_of_length-le}
 use Rattle.th_words.specs.Pieces.{Word}
 use Rattle.th_words.proofs.WellFormed.{passes, passes-pieces, option_here, option_twice, value_here, operand_here}
-use Rattle.th_words.proofs.shape.is_well_formed.Goals as goal
-use Rattle.th_words.proofs.shape.is_well_formed.Goals.{then-not-waits+then-is_option+else-stands_again, else-not-waits+then-may_be_value, else-not-waits-via-then-not-waits+else-is_option, else-not-waits-via-else-not-waits}
+use Rattle.th_words.proofs.word_shape.is_well_formed.Goals as goal
+use Rattle.th_words.proofs.word_shape.is_well_formed.Goals.{then-not-waits+then-is_option+else-stands_again, else-not-waits+then-may_be_value, else-not-waits-via-then-not-waits+else-is_option, else-not-waits-via-else-not-waits}
 
 -- the names and the words as texts
 abbrev known : List (Bor Word) → List Word
