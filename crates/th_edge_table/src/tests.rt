@@ -172,6 +172,9 @@ fn replays_end_in_their_state_or_at_the_first_bad_event(rt: HostRuntime) -> Resu
             panic!(rt; "allowed")
         };
         assert!(rt; fail == th_base::Fail::Refused(BadEvent { event }));
+        let text = format!(in rt.alloc(); "{fail}")?;
+        let wanted = format!(in rt.alloc(); "event {event} is not allowed")?;
+        assert!(rt; text.as_str() == wanted.as_str());
     }
     Ok(())
 }
