@@ -17,3 +17,4 @@ mod WorkedFiles
 pub mod Allowing
 pub mod Changing
 pub mod Acting
+mod WorkedRuns

@@ -27,6 +27,8 @@ pub mod Joined
 pub mod Facts
 pub mod Worked
 pub mod WorkedEffects
+pub mod WorkedRuns
+pub mod WorkedLeaks
 pub mod Flaws
 pub mod Forms
 pub mod ClassBytes
