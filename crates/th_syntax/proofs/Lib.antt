@@ -18,3 +18,4 @@ pub mod Allowing
 pub mod Changing
 pub mod Acting
 mod WorkedRuns
+mod Keeping
