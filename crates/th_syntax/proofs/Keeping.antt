@@ -1,13 +1,12 @@
 -- Objects keep their types in every run, so the String constants stay.
-use Rattle.std.proofs.Common.{◌≡◌, ℕ, zero, suc, List, [], ◌∷◌, ◌++◌, Option, Some, slice_get, slice_set, refl, sym, subst, ◌∙◌}
+use Rattle.std.proofs.Common.{◌≡◌, ℕ, zero, suc, List, [], ◌∷◌, ◌++◌, Some, slice_get, slice_set, refl, sym, subst, ◌∙◌}
 use Rattle.std.specs.Prelude.{map, replicate}
 use Rattle.th_base.specs.declared.built_in.TheConstants.{STRING_NUMBER}
 use Rattle.th_base.specs.declared.lifecycle.Lifecycle.{Lifecycle}
-use Rattle.th_base.specs.declared.number.FieldId.{FieldId}
 use Rattle.th_syntax.specs.declared.class_file.ClassFile.{ClassFile}
-use Rattle.th_syntax.specs.Machine.{Value, Object, Instance, Array, State, class_id}
+use Rattle.th_syntax.specs.Machine.{Object, Instance, Array, State, class_id}
 use Rattle.th_syntax.specs.Strings.{string_constants}
-use Rattle.th_syntax.specs.Initial.{default_value, new_object, initial}
+use Rattle.th_syntax.specs.Initial.{default_value, new_object}
 use Rattle.th_syntax.specs.Arrays.{array_descriptor}
 use Rattle.th_syntax.specs.Harness.{fresh_objects}
 use Rattle.th_syntax.specs.Run.{Follows, IsRun, IsReachable}
@@ -54,7 +53,7 @@ module _ (lifecycle : Lifecycle) (files : List ClassFile) (a : ℕ) (o : Object)
       kept_before s.heap (new_object files c ∷ []) a o stands
   kept_after s _ (makes_an_array method offset next locals stack stack_after below component count is edge) stands =
       kept_before s.heap (Array (array_descriptor component) (replicate count (default_value component)) ∷ []) a o stands
-  kept_after s _ (opens_class c untouched) stands = kept s.heap a o stands
+  kept_after s _ (opens_class c method offset locals stack below is untouched) stands = kept s.heap a o stands
   kept_after s _ (calls_method method offset taken locals stack stack_after arguments below i code is at takes has_code) stands = kept s.heap a o stands
   kept_after s _ (returns_to method caller offset waiting next locals stack results locals_below stack_below below is goes) stands = kept s.heap a o stands
   kept_after s _ (returns_off method offset locals stack below is none) stands = kept s.heap a o stands

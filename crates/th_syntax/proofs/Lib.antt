@@ -18,4 +18,5 @@ pub mod Allowing
 pub mod Changing
 pub mod Acting
 mod WorkedRuns
-mod Keeping
+pub mod Keeping
+mod Initialising

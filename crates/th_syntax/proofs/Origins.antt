@@ -124,7 +124,7 @@ set_explained : (files : List ClassFile) (statics : List Value) (field : ℕ) (v
 set_explained files statics field v stored old k w e =
     elim (set_cases statics field k v w e) [ inl same ↦ inr (subst (IsStoredInto files) same stored) | inr other ↦ old k w other ]
 
-all_set : {A : Type 0} (P : A → Type 0) (xs : List A) (k : ℕ) (x : A) → AllByRecursion P xs → P x → AllByRecursion P (slice_set xs k x)
+pub all_set : {A : Type 0} (P : A → Type 0) (xs : List A) (k : ℕ) (x : A) → AllByRecursion P xs → P x → AllByRecursion P (slice_set xs k x)
 all_set P [] k x all here = all
 all_set P (y ∷ xs) zero x all here = (here, all.1)
 all_set P (y ∷ xs) (suc k) x all here = (all.0, all_set P xs k x all.1 here)
@@ -188,7 +188,7 @@ module _ (lifecycle : Lifecycle) (files : List ClassFile) where
         stacked = at.1;
         statics = good.statics;
       }
-  good_after s _ (opens_class c untouched) good = opened_good files s c good
+  good_after s _ (opens_class c method offset locals stack below is untouched) good = opened_good files s c good
   good_after s _ (calls_method method offset taken locals stack stack_after arguments below i code is stands takes has_code) good =
       let at = frames_are s _ good is in
       record { heap = good.heap; frames = (entry_of files taken code has_code, at.0); stacked = ((i, stands, call_falls files takes), at.1); statics = good.statics }

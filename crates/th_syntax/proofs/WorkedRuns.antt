@@ -10,13 +10,14 @@ use Rattle.th_syntax.specs.declared.event.Event.TheVariants.{Handler}
 use Rattle.th_syntax.specs.Machine.{NullValue, Address, Done, Instance, Array, State, class_id}
 use Rattle.th_syntax.specs.Descriptors.{method_type_of, method_at, types_at, type_at, element_at, name_before, base_type, result_at, field_type_of}
 use Rattle.th_syntax.specs.Effects.{needs, or_ends, ends_unless, either_of, initialised}
+use Rattle.th_syntax.specs.Strings.{ascending_texts}
 use Rattle.th_syntax.specs.Initial.{initial}
 use Rattle.th_syntax.specs.Step.{step}
 use Rattle.th_syntax.specs.Harness.{event, is_idle}
 use Rattle.th_syntax.specs.Run.{IsReachable}
 use Rattle.th_syntax.specs.Joined.{IsJoined, here, through}
 use Rattle.th_syntax.specs.WorkedEffects.{field_id}
-use Rattle.th_syntax.specs.WorkedRuns.{LeadsTo, IsEndedBy, settled, events_from, launch, called, at_rest, object_field, constant_program, constants_launched, constants_created, bundle_program, bundle_heap, skipping_program, skipping_state, holding_program, held_in_box, stages_from, chart_rows}
+use Rattle.th_syntax.specs.WorkedRuns.{LeadsTo, IsEndedBy, settled, events_from, launch, called, at_rest, object_field, constant_program, constants_launched, constants_started, constants_created, bundle_program, bundle_heap, skipping_program, skipping_state, holding_program, held_in_box, stages_from, chart_rows}
 use Rattle.th_syntax.specs.WorkedLeaks.{vector_program, vector_created, overflowing_program, overflowing_created, initialising_program, initialising_created, resuming_program, resuming_resumed, halving_program, halving_created, testing_program, untesting_program, array_launched}
 
 -- ---- the states of worked runs are reachable
@@ -60,6 +61,13 @@ reachable lifecycle files n events s e = events_reachable lifecycle files n even
 pub constants_are_launched : LeadsTo Any constant_program (launch 12 ∷ []) constants_launched
 unfolding needs or_ends ends_unless either_of initialised wrapped_value low_bits signed_value method_type_of method_at types_at type_at element_at name_before base_type result_at field_type_of
 constants_are_launched = refl
+
+pub constants_are_started : LeadsTo Any constant_program (launch 12 ∷ called 1 ∷ []) constants_started
+unfolding needs or_ends ends_unless either_of initialised wrapped_value low_bits signed_value method_type_of method_at types_at type_at element_at name_before base_type result_at field_type_of
+constants_are_started = refl
+
+pub texts_are_ascending : ascending_texts (codes "b" ∷ codes "a" ∷ codes "b" ∷ codes "ab" ∷ []) ≡ codes "a" ∷ codes "ab" ∷ codes "b" ∷ []
+texts_are_ascending = refl
 
 pub constants_are_created : LeadsTo Any constant_program (launch 12 ∷ called 0 ∷ []) constants_created
 unfolding needs or_ends ends_unless either_of initialised wrapped_value low_bits signed_value method_type_of method_at types_at type_at element_at name_before base_type result_at field_type_of

@@ -25,6 +25,7 @@ pub mod Changes
 pub mod Run
 pub mod Joined
 pub mod Facts
+pub mod Kept
 pub mod Worked
 pub mod WorkedEffects
 pub mod WorkedRuns

@@ -13,7 +13,7 @@ use Rattle.th_syntax.specs.declared.event.Event.{Event}
 use Rattle.th_syntax.specs.declared.event.Event.TheVariants.{Launch, Handler}
 use Rattle.th_syntax.specs.declared.instr.StackOp.TheVariants.{Dup}
 use Rattle.th_syntax.specs.declared.instr.Instr.{Instr}
-use Rattle.th_syntax.specs.declared.instr.Instr.TheVariants.{Int, Str, ALoad, ArrayStore, Stack, Return, GetStatic, PutStatic, PutField, InvokeVirtual, InvokeSpecial, New, ANewArray}
+use Rattle.th_syntax.specs.declared.instr.Instr.TheVariants.{Int, Str, ALoad, ArrayStore, Stack, AReturn, Return, GetStatic, PutStatic, PutField, InvokeVirtual, InvokeSpecial, InvokeStatic, New, ANewArray}
 use Rattle.th_base.specs.declared.operation.Elem.TheVariants.{Ref}
 use Rattle.th_syntax.specs.Machine.{Value, NullValue, Address, Object, Instance, Array, Mark, Untouched, Done, Launched, State, class_id}
 use Rattle.th_syntax.specs.Program.{built_in_classes}
@@ -108,17 +108,19 @@ making offset name =
 
 -- ---- constants and initialisers
 
--- The Activity's superclass has constants, and an initialiser that reads a constant of the Activity. The
--- Activity's initialiser copies what the superclass's found, and stores a String. The Activity stores
--- itself into a class whose initialiser stores 3.
+-- The Activity's superclass has constants, and an initialiser that reads a constant of the Activity and
+-- stores 6 into one of its own. The Activity's initialiser copies what the superclass's found, and
+-- stores a String. The Activity stores itself into a class whose initialiser stores 3; the field and a
+-- method are named by a subclass of that class, which stays untouched.
 abbrev pub base_class : ClassFile
 base_class = class_named 33 (codes "Base") ACTIVITY.now []
-    (constant_field (codes "n") (codes "I") (IntConstant (pos 7))
+    (constant_field (codes "n") (codes "I") (IntConstant (pos 7)) ∷ constant_field (codes "k") (codes "I") (IntConstant (pos 8))
     ∷ constant_field (codes "t") (codes "Ljava/lang/String;") (StrConstant (codes "b"))
     ∷ constant_field (codes "m") (codes "J") (LongConstant (pos 9)) ∷ field 8 (codes "seen") (codes "I") ∷ [])
     (constructor_below ACTIVITY.now
     ∷ static_method (codes "<clinit>") ((0, GetStatic (ref (codes "Act") (codes "k") (codes "I")))
-    ∷ (3, PutStatic (ref (codes "Base") (codes "seen") (codes "I"))) ∷ (6, Return) ∷ []) ∷ [])
+    ∷ (3, PutStatic (ref (codes "Base") (codes "seen") (codes "I"))) ∷ (6, Int (pos 6))
+    ∷ (8, PutStatic (ref (codes "Base") (codes "k") (codes "I"))) ∷ (11, Return) ∷ []) ∷ [])
 
 abbrev pub constant_activity : ClassFile
 constant_activity = class_named 33 (codes "Act") (codes "Base") []
@@ -128,29 +130,40 @@ constant_activity = class_named 33 (codes "Act") (codes "Base") []
     ∷ static_method (codes "<clinit>") ((0, GetStatic (ref (codes "Base") (codes "seen") (codes "I")))
     ∷ (3, PutStatic (ref (codes "Act") (codes "copied") (codes "I"))) ∷ (6, Str (codes "a"))
     ∷ (8, PutStatic (ref (codes "Act") (codes "name") (codes "Ljava/lang/String;"))) ∷ (11, Return) ∷ [])
-    ∷ creation ((0, ALoad 0) ∷ (1, PutStatic (ref (codes "Other") (codes "o") (codes "Ljava/lang/Object;"))) ∷ (4, Return) ∷ []) ∷ [])
+    ∷ creation ((0, ALoad 0) ∷ (1, PutStatic (ref (codes "Below") (codes "o") (codes "Ljava/lang/Object;"))) ∷ (4, Return) ∷ [])
+    ∷ plain_method (codes "onStart") ((0, InvokeStatic (ref (codes "Below") (codes "q") (codes "()V"))) ∷ (3, Return) ∷ []) ∷ [])
 
 abbrev pub other_class : ClassFile
 other_class = object_class (codes "Other") (object_field (codes "o") ∷ field 8 (codes "x") (codes "I") ∷ [])
     (static_method (codes "<clinit>")
-    ((0, Int (pos 3)) ∷ (1, PutStatic (ref (codes "Other") (codes "x") (codes "I"))) ∷ (4, Return) ∷ []) ∷ [])
+    ((0, Int (pos 3)) ∷ (1, PutStatic (ref (codes "Other") (codes "x") (codes "I"))) ∷ (4, Return) ∷ [])
+    ∷ static_method (codes "q") ((0, Return) ∷ []) ∷ [])
+
+abbrev pub below_class : ClassFile
+below_class = class_named 33 (codes "Below") (codes "Other") [] [] []
 
 abbrev pub constant_program : List ClassFile
-constant_program = base_class ∷ constant_activity ∷ other_class ∷ []
+constant_program = base_class ∷ constant_activity ∷ other_class ∷ below_class ∷ []
 
 -- the Strings and the launched object
 abbrev pub constant_heap : List Object
 constant_heap = Instance (class_id 1) [] ∷ Instance (class_id 1) [] ∷ Instance (class_id 12) [] ∷ []
 
+abbrev pub constants_with : Value → Value → Mark → State
+constants_with o x mark = at_rest constant_heap
+    (int 7 ∷ int 6 ∷ Address 1 ∷ long 9 ∷ int 5 ∷ int 5 ∷ int 5 ∷ Address 0 ∷ o ∷ x ∷ []) (Done ∷ Done ∷ mark ∷ Untouched ∷ []) 2
+
 -- launched: the class of the field isn't initialised yet
 abbrev pub constants_launched : State
-constants_launched = at_rest constant_heap
-    (int 7 ∷ Address 1 ∷ long 9 ∷ int 5 ∷ int 5 ∷ int 5 ∷ Address 0 ∷ NullValue ∷ int 0 ∷ []) (Done ∷ Done ∷ Untouched ∷ []) 2
+constants_launched = constants_with NullValue (int 0) Untouched
+
+-- started: the call of a method opened it
+abbrev pub constants_started : State
+constants_started = constants_with NullValue (int 3) Done
 
 -- created: the store opened it, and was made again
 abbrev pub constants_created : State
-constants_created = at_rest constant_heap
-    (int 7 ∷ Address 1 ∷ long 9 ∷ int 5 ∷ int 5 ∷ int 5 ∷ Address 0 ∷ Address 2 ∷ int 3 ∷ []) (Done ∷ Done ∷ Done ∷ []) 2
+constants_created = constants_with (Address 2) (int 3) Done
 
 -- ---- Bundles
 
@@ -205,15 +218,17 @@ skipping_state v = at_rest skipping_heap (NullValue ∷ v ∷ []) (Done ∷ Done
 
 -- ---- what is joined
 
--- an Activity that stores itself into an array, the array into a box, and the box into a static field
+-- an Activity that stores itself into an array, the array into a box that a method returned, and the
+-- box into a static field
 abbrev pub holding_program : List ClassFile
 holding_program =
     object_class (codes "Box") (field 0 (codes "v") (codes "Ljava/lang/Object;") ∷ []) []
     ∷ activity_class (object_field (codes "s") ∷ [])
-    (creation (making 0 (codes "Box")
-    ++ ((7, Stack Dup) ∷ (8, Int (pos 1)) ∷ (9, ANewArray (codes "java/lang/Object")) ∷ (12, Stack Dup) ∷ (13, Int (pos 0)) ∷ (14, ALoad 0)
-    ∷ (15, ArrayStore Ref) ∷ (16, PutField (ref (codes "Box") (codes "v") (codes "Ljava/lang/Object;")))
-    ∷ (19, PutStatic (ref (codes "Act") (codes "s") (codes "Ljava/lang/Object;"))) ∷ (22, Return) ∷ [])) ∷ []) ∷ []
+    (method 8 (codes "make") (codes "()LBox;") 0 (making 0 (codes "Box") ++ ((7, AReturn) ∷ []))
+    ∷ creation ((0, InvokeStatic (ref (codes "Act") (codes "make") (codes "()LBox;"))) ∷ (3, Stack Dup) ∷ (4, Int (pos 1))
+    ∷ (5, ANewArray (codes "java/lang/Object")) ∷ (8, Stack Dup) ∷ (9, Int (pos 0)) ∷ (10, ALoad 0) ∷ (11, ArrayStore Ref)
+    ∷ (12, PutField (ref (codes "Box") (codes "v") (codes "Ljava/lang/Object;")))
+    ∷ (15, PutStatic (ref (codes "Act") (codes "s") (codes "Ljava/lang/Object;"))) ∷ (18, Return) ∷ []) ∷ []) ∷ []
 
 abbrev pub holding_heap : List Object
 holding_heap =

@@ -23,6 +23,7 @@ ghost use Rattle.th_syntax.specs.Held.{values_held, is_past_limit};
 ghost use Rattle.th_syntax.specs.Run.{Follows, IsReachable};
 ghost use Rattle.th_syntax.specs.Joined.{IsJoined};
 ghost use Rattle.th_syntax.specs.Facts.{IsOriginal, IsStoredInto, IsMade, IsOnPath, EveryPathStands, IsAtInstruction, KeepsType, IsString};
+ghost use Rattle.th_syntax.specs.Kept.{IsKept};
 ghost use Rattle.th_syntax.specs.Worked.{plain_program, storing_program, clearing_program, one_launched};
 
 pub mod class_files;
@@ -54,6 +55,11 @@ pub fn code_frames_are_on_paths()
 pub fn code_frames_stand()
     ensures { (lifecycle : Lifecycle) (files : List ClassFile) (s : State) → EveryPathStands files → IsReachable lifecycle files s
         → AllByRecursion (IsAtInstruction files) s.frames }
+{}
+
+/// What each reachable state keeps.
+pub fn kept()
+    ensures { (lifecycle : Lifecycle) (files : List ClassFile) (s : State) → IsReachable lifecycle files s → IsKept files s }
 {}
 
 /// An object keeps its class, and an array its type, in each step and each event.

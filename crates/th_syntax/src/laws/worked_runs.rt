@@ -1,15 +1,16 @@
 // Whole runs of small programs, computed: what the machine's definitions say of them.
-ghost use Rattle.std.specs.Prelude.{◌≡◌, ℕ, true, List, [], ◌∷◌, map, Some};
+ghost use Rattle.std.specs.Prelude.{◌≡◌, ℕ, true, List, [], ◌∷◌, map, codes, Some};
 ghost use Rattle.th_base.specs.declared.lifecycle.Lifecycle.{Lifecycle};
 ghost use Rattle.th_base.specs.declared.lifecycle.Lifecycle.TheVariants.{Any};
 ghost use Rattle.th_syntax.specs.declared.class_file.ClassFile.{ClassFile};
 ghost use Rattle.th_syntax.specs.declared.event.Event.{Event};
 ghost use Rattle.th_syntax.specs.declared.event.Event.TheVariants.{Handler};
 ghost use Rattle.th_syntax.specs.Machine.{NullValue, Address, Done, State};
+ghost use Rattle.th_syntax.specs.Strings.{ascending_texts};
 ghost use Rattle.th_syntax.specs.Initial.{initial};
 ghost use Rattle.th_syntax.specs.Run.{IsReachable};
 ghost use Rattle.th_syntax.specs.Joined.{IsJoined};
-ghost use Rattle.th_syntax.specs.WorkedRuns.{LeadsTo, IsEndedBy, events_from, launch, called, at_rest, constant_program, constants_launched, constants_created, bundle_program, bundle_heap, skipping_program, skipping_state, holding_program, held_in_box, stages_from, chart_rows};
+ghost use Rattle.th_syntax.specs.WorkedRuns.{LeadsTo, IsEndedBy, events_from, launch, called, at_rest, constant_program, constants_launched, constants_started, constants_created, bundle_program, bundle_heap, skipping_program, skipping_state, holding_program, held_in_box, stages_from, chart_rows};
 ghost use Rattle.th_syntax.specs.WorkedLeaks.{vector_program, vector_created, overflowing_program, overflowing_created, initialising_program, initialising_created, resuming_program, resuming_resumed, halving_program, halving_created, testing_program, untesting_program, array_launched};
 
 /// A state to which events lead, each followed until nothing runs, is reachable.
@@ -20,9 +21,16 @@ pub fn worked_states_are_reachable()
 
 /// Opening a class gives its static fields their constants; then its superclass is initialised, and
 /// then its own initialiser runs. A store that opens a class is made again when this is initialised.
+/// Where a subclass names a member, the class that declares it is opened, and not the subclass.
 pub fn classes_are_initialised()
     ensures launched { LeadsTo Any constant_program (launch 12 ∷ []) constants_launched }
+    ensures started { LeadsTo Any constant_program (launch 12 ∷ called 1 ∷ []) constants_started }
     ensures created { LeadsTo Any constant_program (launch 12 ∷ called 0 ∷ []) constants_created }
+{}
+
+/// String constants ascend by their bytes, each once.
+pub fn texts_ascend()
+    ensures { ascending_texts (codes "b" ∷ codes "a" ∷ codes "b" ∷ codes "ab" ∷ []) ≡ codes "a" ∷ codes "ab" ∷ codes "b" ∷ [] }
 {}
 
 /// A handler that takes a Bundle gets a fresh one, or null.
