@@ -15,13 +15,12 @@ use Rattle.th_syntax.specs.Strings.{string_constants}
 use Rattle.th_syntax.specs.Initial.{default_value, new_object, initial}
 use Rattle.th_syntax.specs.Arrays.{array_descriptor}
 use Rattle.th_syntax.specs.Harness.{fresh_objects}
-use Rattle.th_syntax.specs.Run.{IsRun, IsReachable}
-use Rattle.th_syntax.specs.Kept.{IsTouched, IsPastOpening, OpensOnTop, IsOpening, IsKept}
+use Rattle.th_syntax.specs.Run.{IsRun}
+use Rattle.th_syntax.specs.Kept.{IsTouched, IsPastOpening, OpensOnTop, IsOpening}
 use Rattle.th_syntax.specs.Changes.{AreOfOneType, IsInitialised, IsChange, ends_run, moves, sets_a_static, sets_an_object, makes_an_instance, makes_an_array, opens_class, calls_method, returns_to, returns_off, finds_superclass, opens_superclass, calls_initialiser, calls_none, initialised_class, finds_class, opens_launched, makes_launched, launches_object, begins_launch, begins_handler}
 use Rattle.th_syntax.proofs.Inverting.{some_is, set_cases, all_append, all_at}
 use Rattle.th_syntax.proofs.Changing.{changed}
-use Rattle.th_syntax.proofs.Origins.{explained, made, on_paths, all_set}
-use Rattle.th_syntax.proofs.Keeping.{strings_kept}
+use Rattle.th_syntax.proofs.Origins.{all_set}
 
 -- ---- marks
 
@@ -32,7 +31,7 @@ mark_cases (x ∷ marks) zero (suc d) m touched = inr touched
 mark_cases (x ∷ marks) (suc c) zero m touched = inr touched
 mark_cases (x ∷ marks) (suc c) (suc d) m touched = elim (mark_cases marks c d m touched) [ inl same ↦ inl (ap suc same) | inr old ↦ inr old ]
 
-touched_here : (marks : List Mark) (c : ℕ) (m : Mark) → (m ≡ Untouched → ⊥) → IsTouched (slice_set marks c m) c
+pub touched_here : (marks : List Mark) (c : ℕ) (m : Mark) → (m ≡ Untouched → ⊥) → IsTouched (slice_set marks c m) c
 touched_here [] c m apart e = absurd cc
 touched_here (x ∷ marks) zero m apart e = apart (some_is m Untouched e)
 touched_here (x ∷ marks) (suc c) m apart e = touched_here marks c m apart e
@@ -44,10 +43,10 @@ touched_too (x ∷ marks) zero m apart (suc d) touched e = touched e
 touched_too (x ∷ marks) (suc c) m apart zero touched e = touched e
 touched_too (x ∷ marks) (suc c) m apart (suc d) touched e = touched_too marks c m apart d touched e
 
-in_progress_apart : InProgress ≡ Untouched → ⊥
+pub in_progress_apart : InProgress ≡ Untouched → ⊥
 in_progress_apart e = cc
 
-done_apart : Done ≡ Untouched → ⊥
+pub done_apart : Done ≡ Untouched → ⊥
 done_apart e = cc
 
 -- after a class is done it isn't in progress
@@ -146,7 +145,7 @@ one_type_too marks (Instance c fields) (Array descriptor elements) same touched 
 one_type_too marks (Array descriptor elements) (Instance c fields) same touched = absurd same
 one_type_too marks (Array descriptor elements) (Array other more) same touched = tt
 
-initialised_touched : (s : State) (c : ℕ) → IsInitialised s c → IsTouched s.marks c
+pub initialised_touched : (s : State) (c : ℕ) → IsInitialised s c → IsTouched s.marks c
 initialised_touched s c ready =
     elim ready [ inl is ↦ marked_as s.marks c InProgress in_progress_apart is | inr is ↦ marked_as s.marks c Done done_apart is ]
 
@@ -364,20 +363,6 @@ initial_marked files = record {
   inits = λ c e. none_started built_in_classes files c e;
 }
 
-run_marked : (lifecycle : Lifecycle) (files : List ClassFile) (s : State) (before : List State) → IsRun lifecycle files (s ∷ before) → Marked files s.marks s.frames s.heap
+pub run_marked : (lifecycle : Lifecycle) (files : List ClassFile) (s : State) (before : List State) → IsRun lifecycle files (s ∷ before) → Marked files s.marks s.frames s.heap
 run_marked lifecycle files s [] e = subst (λ (t : State). Marked files t.marks t.frames t.heap) (sym e) (initial_marked files)
 run_marked lifecycle files w (s ∷ before) run = marked_after lifecycle files s w (changed lifecycle files s w run.0) (run_marked lifecycle files s before run.1)
-
-pub kept : (lifecycle : Lifecycle) (files : List ClassFile) (s : State) → IsReachable lifecycle files s → IsKept files s
-kept lifecycle files s run =
-    let good = run_marked lifecycle files s run.0 run.1 in
-    record {
-      frames = on_paths lifecycle files s run;
-      statics = explained lifecycle files s run;
-      activities = λ address class fields. made lifecycle files s address class fields run;
-      strings = λ address text. strings_kept lifecycle files s address text run;
-      opening = good.opening;
-      superclasses = good.above;
-      objects = λ address class fields stands. all_at (IsOfTouched s.marks) s.heap address (Instance class fields) good.objects stands;
-      idle = λ none c e. subst (λ (fs : List Frame). HasInit fs c) none (good.inits c e);
-    }

@@ -19,4 +19,6 @@ pub mod Changing
 pub mod Acting
 mod WorkedRuns
 pub mod Keeping
-mod Initialising
+pub mod Initialising
+pub mod Writing
+mod Kept

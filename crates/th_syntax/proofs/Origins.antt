@@ -93,7 +93,7 @@ pub record IsOpenedFrom (files : List ClassFile) (c : ℕ) (fs : List Owned) (vs
   pub held : slice_get vs k ≡ Some old
   pub value : v ≡ opened_value files c field old
 
-opened_from : (files : List ClassFile) (c : ℕ) (fs : List Owned) (vs : List Value) (k : ℕ) (v : Value) → slice_get (opened_statics files c fs vs) k ≡ Some v → IsOpenedFrom files c fs vs k v
+pub opened_from : (files : List ClassFile) (c : ℕ) (fs : List Owned) (vs : List Value) (k : ℕ) (v : Value) → slice_get (opened_statics files c fs vs) k ≡ Some v → IsOpenedFrom files c fs vs k v
 opened_from files c [] vs k v e = absurd cc
 opened_from files c (f ∷ fs) [] k v e = absurd cc
 opened_from files c (f ∷ fs) (w ∷ vs) zero v e = record { field = f; old = w; numbered = refl; held = refl; value = sym (some_is (opened_value files c f w) v e) }
@@ -242,7 +242,7 @@ strings_proper : (files : List ClassFile) (texts : List (List ℕ)) → AllByRec
 strings_proper files [] = tt
 strings_proper files (text ∷ texts) = ((λ activity. absurd (let h : false ≡ true = activity in cc)), strings_proper files texts)
 
-initial_value : (fs : List Owned) (k : ℕ) (v : Value) → slice_get (map (λ f. default_value f.member.descriptor) fs) k ≡ Some v → (f : Owned) × (slice_get fs k ≡ Some f) × (v ≡ default_value f.member.descriptor)
+pub initial_value : (fs : List Owned) (k : ℕ) (v : Value) → slice_get (map (λ f. default_value f.member.descriptor) fs) k ≡ Some v → (f : Owned) × (slice_get fs k ≡ Some f) × (v ≡ default_value f.member.descriptor)
 initial_value [] k v e = absurd cc
 initial_value (f ∷ fs) zero v e = (f, refl, sym (some_is (default_value f.member.descriptor) v e))
 initial_value (f ∷ fs) (suc k) v e = initial_value fs k v e

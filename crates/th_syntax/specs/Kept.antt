@@ -7,7 +7,8 @@ use Rattle.th_base.specs.declared.number.FieldId.{FieldId}
 use Rattle.th_base.specs.Hierarchy.{superclass_of}
 use Rattle.th_syntax.specs.declared.class_file.ClassFile.{ClassFile}
 use Rattle.th_syntax.specs.Machine.{Value, Instance, Mark, Untouched, InProgress, OpenSuperclass, CallInitialiser, EndInit, Frame, CodeFrame, InitFrame, LaunchFrame, State}
-use Rattle.th_syntax.specs.Program.{hierarchy_of, is_activity}
+use Rattle.th_syntax.specs.Program.{Owned, fields_of, hierarchy_of, is_activity}
+use Rattle.th_syntax.specs.Initial.{default_value}
 use Rattle.th_syntax.specs.Strings.{string_constants}
 use Rattle.th_syntax.specs.Facts.{IsOriginal, IsStoredInto, IsMade, IsOnPath, IsString}
 
@@ -40,8 +41,8 @@ IsOpening (LaunchFrame d stage ∷ below) c = ⊥
 -- code stands where paths lead; static fields hold what they begin with or what is stored into them;
 -- objects of Activity classes are made by the harness or by the program; String constants stay; an
 -- initialisation that has its superclass to open yet is on top; but for its class, superclasses of
--- classes that aren't untouched aren't either; nor are classes of objects; and where nothing runs no
--- class is in progress
+-- classes that aren't untouched aren't either; nor are classes of objects; fields of untouched classes
+-- hold 0 or null; and where nothing runs no class is in progress
 pub record IsKept (files : List ClassFile) (s : State) : Type 0 where
   pub frames : AllByRecursion (IsOnPath files) s.frames
   pub statics : (field : ℕ) (v : Value) → slice_get s.statics field ≡ Some v → IsOriginal files field v ⊎ IsStoredInto files field
@@ -53,4 +54,6 @@ pub record IsKept (files : List ClassFile) (s : State) : Type 0 where
       → IsTouched s.marks k ⊎ IsOpening s.frames c
   pub objects : (address : ℕ) (class : ClassId) (fields : List (FieldId × Value)) → slice_get s.heap address ≡ Some (Instance class fields)
       → IsTouched s.marks class.0
+  pub unwritten : (field : ℕ) (f : Owned) (v : Value) → slice_get (fields_of files) field ≡ Some f
+      → slice_get s.marks f.owner ≡ Some Untouched → slice_get s.statics field ≡ Some v → v ≡ default_value f.member.descriptor
   pub idle : s.frames ≡ [] → (c : ℕ) → slice_get s.marks c ≡ Some InProgress → ⊥
