@@ -1,15 +1,16 @@
 -- What single statements do on a small state.
-use Rattle.std.proofs.Common.{◌≡◌, ℕ, ℤ, pos, negsuc, [], ◌∷◌, Some, None, slice_get, refl, sym, ap, ◌∙◌}
+use Rattle.std.proofs.Common.{◌≡◌, ℕ, ℤ, pos, negsuc, true, false, inl, inr, [], ◌∷◌, codes, Some, None, slice_get, refl, sym, ap, ◌∙◌}
 use Rattle.th_base.specs.declared.operation.Elem.TheVariants.{Ref as RefElem}
 use Rattle.th_base.specs.declared.operation.ArithOp.TheVariants.{Sub}
 use Rattle.th_base.specs.declared.operation.NarrowOp.TheVariants.{Char as ToChar}
 use Rattle.th_base.specs.declared.operation.Relation.TheVariants.{Lt, Gt}
 use Rattle.th_ir.specs.declared.stmt.Condition.TheVariants.{Ints, NoKey}
-use Rattle.th_ir.specs.declared.stmt.Stmt.TheVariants.{Arith, Neg, AddConst, Narrow, Assume, GetElem, Length}
+use Rattle.th_ir.specs.declared.stmt.Stmt.TheVariants.{Arith, Neg, AddConst, Narrow, Assume, GetElem, PutElem, Length, NewArray, Cast, InstanceOf}
 use Rattle.th_ir.specs.Machine.{RegValue, IntValue, NullValue, Address, RegObject, length_of}
-use Rattle.th_ir.specs.Effects.{Change, goes_on, sets, arithmetic_of, narrowed}
+use Rattle.th_ir.specs.Effects.{Change, goes_on, sets, arithmetic_of, narrowed, is_storable}
 use Rattle.th_ir.specs.Worked.{reg}
-use Rattle.th_ir.specs.WorkedEffects.{MakesOnly, MayMake, effect_array, effect_state}
+use Rattle.th_ir.specs.WorkedEffects.{MakesOnly, MakesNone, MayMake, effect_array, effect_state}
+use Rattle.th_ir.specs.WorkedReceivers.{receivers_classes, receivers_program}
 use Rattle.th_wrap.specs.Arithmetic.{negation_of, sum_of}
 use Rattle.th_wrap.specs.TwosComplement.{low_bits, signed_value, wrapped_value}
 use Rattle.th_ir.proofs.Plain.{some_is}
@@ -66,6 +67,45 @@ length_only c e =
 
 pub length_read : MakesOnly (Length (reg 9) (reg 4)) (set_to (pos 2))
 length_read = ((record { address = 0; object = _; value = refl; stands = refl }, 2, refl, refl), length_only)
+
+-- ---- types
+
+not_null : Address 0 ≡ NullValue → ⊥
+not_null e = cc
+
+not_so : false ≡ true → ⊥
+not_so e = cc
+
+not_negative : (n : ℕ) → IntValue (negsuc 2) ≡ IntValue (pos n) → ⊥
+not_negative n e = cc
+
+pub cast_passes : MakesOnly (Cast (reg 9) (reg 4) (codes "[LA;")) (sets (reg 9) (Address 0))
+cast_passes = ((inr refl, refl), λ c e. e.1)
+
+pub null_passes : MakesOnly (Cast (reg 9) (reg 3) (codes "[LB;")) (sets (reg 9) NullValue)
+null_passes = ((inl refl, refl), λ c e. e.1)
+
+pub cast_stops : MakesNone (Cast (reg 9) (reg 4) (codes "[LB;"))
+cast_stops c e = elim e.0 [ inl null ↦ not_null null | inr so ↦ not_so so ]
+
+pub instance_found : MakesOnly (InstanceOf (reg 9) (reg 4) (codes "java/lang/Object")) (set_to (pos 1))
+instance_found = (refl, λ c e. e)
+
+pub no_instance_found : MakesOnly (InstanceOf (reg 9) (reg 4) (codes "[LB;")) (set_to (pos 0))
+no_instance_found = (refl, λ c e. e)
+
+pub null_is_none : MakesOnly (InstanceOf (reg 9) (reg 3) (codes "java/lang/Object")) (set_to (pos 0))
+null_is_none = (refl, λ c e. e)
+
+pub store_stops : MakesNone (PutElem (reg 4) (reg 4))
+store_stops c e =
+    let address : e.0.at.address ≡ 0 = address_is 0 e.0.at.address e.0.at.value in
+    let object : Some effect_array ≡ Some e.0.at.object = ap (slice_get effect_state.heap) (sym address) ∙ e.0.at.stands in
+    let site : 2 ≡ e.0.at.object.site = ap (λ (o : RegObject). o.site) (some_is effect_array e.0.at.object object) in
+    not_so (ap (λ n. is_storable receivers_classes receivers_program effect_state.heap n (Address 0)) site ∙ e.1)
+
+pub length_stops : MakesNone (NewArray (reg 9) record { 0 = 2 } (reg 2))
+length_stops c e = not_negative e.0 e.1
 
 -- ---- conditions
 

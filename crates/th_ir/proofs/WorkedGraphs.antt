@@ -12,7 +12,7 @@ use Rattle.th_ir.specs.FactSets.{sets_of}
 use Rattle.th_ir.specs.Graph.{IsGraph, LeadsTo, begins, by_field, by_element, IsAlarm, AreAlarms, alarm_key}
 use Rattle.th_ir.specs.WorkedGraph.{storing_edges, storing_alarms, vector_edges, alarm_at}
 use Rattle.th_ir.specs.WorkedStoring.{storing_classes, storing_program, storing_facts}
-use Rattle.th_ir.specs.WorkedVector.{vector_classes, vector_facts}
+use Rattle.th_ir.specs.WorkedVector.{vector_classes, vector_program, vector_facts}
 use Rattle.th_ir.proofs.Plain.{some_is}
 use Rattle.th_ir.proofs.TestedFacts.{in_order}
 use Rattle.th_ir.proofs.TestedGraph.{is_graph}
@@ -71,3 +71,25 @@ alarm_is a (suc k) is = absurd cc
 
 pub storing_alarm : AreAlarms storing_classes storing_program storing_edges storing_alarms
 storing_alarm = record { alarms_are = λ a. (λ among. alarm_is a among.0 among.1, λ is. only_alarm a is); ascend = in_order ((0 ∷ 11 ∷ []) ∷ []) refl }
+
+-- ---- paths of the program of growing arrays
+
+pub alarm_by_element : IsAlarm vector_classes vector_program vector_edges (alarm_at 0 12)
+alarm_by_element = record {
+  static = refl;
+  reference = refl;
+  activity = refl;
+  site = record { 0 = 0 };
+  leads = by_element {x = record { 0 = 2 }} (begins (0, refl)) (4, refl);
+  class = refl;
+}
+
+pub alarm_by_field : IsAlarm vector_classes vector_program vector_edges (alarm_at 4 12)
+alarm_by_field = record {
+  static = refl;
+  reference = refl;
+  activity = refl;
+  site = record { 0 = 0 };
+  leads = by_element {x = record { 0 = 2 }} (by_field {x = record { 0 = 3 }} record { 0 = 3 } (begins (1, refl)) (2, refl)) (4, refl);
+  class = refl;
+}

@@ -118,7 +118,7 @@ module _ (lifecycle : Lifecycle) (files : List ClassFile) where
     by_effect i _ w at (makes_array {stack = stack_after} component count falls) h =
         behind i (record s { heap = s.heap ++ Array (array_descriptor component) (replicate count (default_value component)) ∷ [] }) w locals (Holds (Address (length s.heap)) ∷ stack_after) (in_code files method.0 offset i at) falls
         (λ next edge. makes_an_array method offset next locals stack (Holds (Address (length s.heap)) ∷ stack_after) below component count stands edge) h
-    by_effect i _ w at (opens {c} untouched) h = change_is s (opened files s c) w (opens_class c untouched) h
+    by_effect i _ w at (opens {c} untouched) h = change_is s (opened files s c) w (opens_class c method offset locals stack below stands untouched) h
     by_effect i _ w at (calls {method = taken} {stack = stack_after} code arguments takes has_code) h =
         change_is s (with_frames s (CodeFrame (method_id taken) 0 (locals_with arguments code.max_locals) [] ∷ CodeFrame method offset locals stack_after ∷ below)) w (calls_method method offset taken locals stack stack_after arguments below i code stands at takes has_code) h
     by_effect i _ w at (returns {results}) h =

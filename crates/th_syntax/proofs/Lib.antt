@@ -17,3 +17,8 @@ mod WorkedFiles
 pub mod Allowing
 pub mod Changing
 pub mod Acting
+mod WorkedRuns
+pub mod Keeping
+pub mod Initialising
+pub mod Writing
+mod Kept

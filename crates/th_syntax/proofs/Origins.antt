@@ -93,7 +93,7 @@ pub record IsOpenedFrom (files : List ClassFile) (c : ℕ) (fs : List Owned) (vs
   pub held : slice_get vs k ≡ Some old
   pub value : v ≡ opened_value files c field old
 
-opened_from : (files : List ClassFile) (c : ℕ) (fs : List Owned) (vs : List Value) (k : ℕ) (v : Value) → slice_get (opened_statics files c fs vs) k ≡ Some v → IsOpenedFrom files c fs vs k v
+pub opened_from : (files : List ClassFile) (c : ℕ) (fs : List Owned) (vs : List Value) (k : ℕ) (v : Value) → slice_get (opened_statics files c fs vs) k ≡ Some v → IsOpenedFrom files c fs vs k v
 opened_from files c [] vs k v e = absurd cc
 opened_from files c (f ∷ fs) [] k v e = absurd cc
 opened_from files c (f ∷ fs) (w ∷ vs) zero v e = record { field = f; old = w; numbered = refl; held = refl; value = sym (some_is (opened_value files c f w) v e) }
@@ -124,7 +124,7 @@ set_explained : (files : List ClassFile) (statics : List Value) (field : ℕ) (v
 set_explained files statics field v stored old k w e =
     elim (set_cases statics field k v w e) [ inl same ↦ inr (subst (IsStoredInto files) same stored) | inr other ↦ old k w other ]
 
-all_set : {A : Type 0} (P : A → Type 0) (xs : List A) (k : ℕ) (x : A) → AllByRecursion P xs → P x → AllByRecursion P (slice_set xs k x)
+pub all_set : {A : Type 0} (P : A → Type 0) (xs : List A) (k : ℕ) (x : A) → AllByRecursion P xs → P x → AllByRecursion P (slice_set xs k x)
 all_set P [] k x all here = all
 all_set P (y ∷ xs) zero x all here = (here, all.1)
 all_set P (y ∷ xs) (suc k) x all here = (all.0, all_set P xs k x all.1 here)
@@ -188,7 +188,7 @@ module _ (lifecycle : Lifecycle) (files : List ClassFile) where
         stacked = at.1;
         statics = good.statics;
       }
-  good_after s _ (opens_class c untouched) good = opened_good files s c good
+  good_after s _ (opens_class c method offset locals stack below is untouched) good = opened_good files s c good
   good_after s _ (calls_method method offset taken locals stack stack_after arguments below i code is stands takes has_code) good =
       let at = frames_are s _ good is in
       record { heap = good.heap; frames = (entry_of files taken code has_code, at.0); stacked = ((i, stands, call_falls files takes), at.1); statics = good.statics }
@@ -242,7 +242,7 @@ strings_proper : (files : List ClassFile) (texts : List (List ℕ)) → AllByRec
 strings_proper files [] = tt
 strings_proper files (text ∷ texts) = ((λ activity. absurd (let h : false ≡ true = activity in cc)), strings_proper files texts)
 
-initial_value : (fs : List Owned) (k : ℕ) (v : Value) → slice_get (map (λ f. default_value f.member.descriptor) fs) k ≡ Some v → (f : Owned) × (slice_get fs k ≡ Some f) × (v ≡ default_value f.member.descriptor)
+pub initial_value : (fs : List Owned) (k : ℕ) (v : Value) → slice_get (map (λ f. default_value f.member.descriptor) fs) k ≡ Some v → (f : Owned) × (slice_get fs k ≡ Some f) × (v ≡ default_value f.member.descriptor)
 initial_value [] k v e = absurd cc
 initial_value (f ∷ fs) zero v e = (f, refl, sym (some_is (default_value f.member.descriptor) v e))
 initial_value (f ∷ fs) (suc k) v e = initial_value fs k v e

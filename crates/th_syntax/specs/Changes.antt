@@ -136,7 +136,8 @@ pub data IsChange (lifecycle : Lifecycle) (files : List ClassFile) (s : State) :
         frames = CodeFrame method next locals stack_after ∷ below;
       })
   -- an instruction opens an untouched class
-  opens_class : (c : ℕ) → slice_get s.marks c ≡ Some Untouched → IsChange lifecycle files s (opened files s c)
+  opens_class : (c : ℕ) (method : MethodId) (offset : ℕ) (locals stack : List Slot) (below : List Frame)
+      → s.frames ≡ CodeFrame method offset locals stack ∷ below → slice_get s.marks c ≡ Some Untouched → IsChange lifecycle files s (opened files s c)
   -- a call: the frame on top waits, and a method's code begins
   calls_method : (method : MethodId) (offset taken : ℕ) (locals stack stack_after arguments : List Slot) (below : List Frame) (i : Instr) (code : Code)
       → s.frames ≡ CodeFrame method offset locals stack ∷ below → instr_at files method.0 offset ≡ Some i

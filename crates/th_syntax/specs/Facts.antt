@@ -1,7 +1,9 @@
 -- What is said of every run: where the values of static fields and the objects of Activity classes
--- come from, and where code frames stand.
+-- come from, where code frames stand, and that objects keep their types.
 use Rattle.std.specs.Prelude.{ℕ, ◌≡◌, ◌⊎◌, true, List, Some, slice_get, ⊤}
+use Rattle.th_base.specs.declared.built_in.TheConstants.{STRING_NUMBER}
 use Rattle.th_base.specs.declared.class.FieldInfo.{FieldInfo}
+use Rattle.th_base.specs.declared.number.FieldId.{FieldId}
 use Rattle.th_syntax.specs.declared.class_file.ClassFile.{ClassFile}
 use Rattle.th_syntax.specs.declared.class_file.Code.{Code}
 use Rattle.th_syntax.specs.declared.class_file.Constant.{Constant}
@@ -9,10 +11,11 @@ use Rattle.th_syntax.specs.declared.instr.Instr.{Instr}
 use Rattle.th_syntax.specs.declared.instr.Instr.TheVariants.{PutStatic, New}
 use Rattle.th_syntax.specs.declared.instr.MemberRef.{MemberRef}
 use Rattle.th_syntax.specs.Flow.{IsReached}
-use Rattle.th_syntax.specs.Machine.{Value, Frame, CodeFrame, InitFrame, LaunchFrame}
+use Rattle.th_syntax.specs.Machine.{Value, Object, Instance, class_id, Frame, CodeFrame, InitFrame, LaunchFrame}
 use Rattle.th_syntax.specs.Program.{is_launchable, Owned, fields_of, number_named, code_of, instr_at}
 use Rattle.th_syntax.specs.Initial.{default_value, constant_value}
 use Rattle.th_syntax.specs.Fields.{field_resolved}
+use Rattle.th_syntax.specs.Changes.{AreOfOneType}
 
 -- a path of a method's code leads to the offset
 pub record IsReachedIn (files : List ClassFile) (method offset : ℕ) : Type 0 where
@@ -66,3 +69,14 @@ IsAtInstruction files (LaunchFrame class stage) = ⊤
 -- wherever a path of a method's code leads an instruction stands (Java specification 4.9.1)
 abbrev pub EveryPathStands : List ClassFile → Type 0
 EveryPathStands files = (method offset : ℕ) → IsReachedIn files method offset → (i : Instr) × (instr_at files method offset ≡ Some i)
+
+-- at the address stands an object of the same class, or an array of the same type
+pub record KeepsType (o : Object) (heap : List Object) (address : ℕ) : Type 0 where
+  pub now : Object
+  pub stands : slice_get heap address ≡ Some now
+  pub same : AreOfOneType o now
+
+-- at the address stands a String
+pub record IsString (heap : List Object) (address : ℕ) : Type 0 where
+  pub fields : List (FieldId × Value)
+  pub stands : slice_get heap address ≡ Some (Instance (class_id STRING_NUMBER) fields)

@@ -25,8 +25,11 @@ pub mod Changes
 pub mod Run
 pub mod Joined
 pub mod Facts
+pub mod Kept
 pub mod Worked
 pub mod WorkedEffects
+pub mod WorkedRuns
+pub mod WorkedLeaks
 pub mod Flaws
 pub mod Forms
 pub mod ClassBytes

@@ -7,7 +7,7 @@ ghost use Rattle.th_base.specs.declared.lifecycle.Lifecycle.TheVariants.{Any, Ch
 ghost use Rattle.th_base.specs.declared.number.ClassId.{ClassId};
 ghost use Rattle.th_base.specs.declared.number.FieldId.{FieldId};
 ghost use Rattle.th_syntax.specs.declared.class_file.ClassFile.{ClassFile};
-ghost use Rattle.th_syntax.specs.Machine.{Value, NullValue, Address, Instance, Untouched, Done, State, class_id};
+ghost use Rattle.th_syntax.specs.Machine.{Value, NullValue, Address, Object, Instance, Untouched, Done, State, class_id};
 ghost use Rattle.th_syntax.specs.declared.instr.Instr.{Instr};
 ghost use Rattle.th_syntax.specs.Initial.{initial};
 ghost use Rattle.th_syntax.specs.Effects.{Top};
@@ -22,12 +22,14 @@ ghost use Rattle.th_syntax.specs.WorkedEffects.{acting_program, acted, effects_o
 ghost use Rattle.th_syntax.specs.Held.{values_held, is_past_limit};
 ghost use Rattle.th_syntax.specs.Run.{Follows, IsReachable};
 ghost use Rattle.th_syntax.specs.Joined.{IsJoined};
-ghost use Rattle.th_syntax.specs.Facts.{IsOriginal, IsStoredInto, IsMade, IsOnPath, EveryPathStands, IsAtInstruction};
+ghost use Rattle.th_syntax.specs.Facts.{IsOriginal, IsStoredInto, IsMade, IsOnPath, EveryPathStands, IsAtInstruction, KeepsType, IsString};
+ghost use Rattle.th_syntax.specs.Kept.{IsKept};
 ghost use Rattle.th_syntax.specs.Worked.{plain_program, storing_program, clearing_program, one_launched};
 
 pub mod class_files;
 pub mod flow;
 pub mod worked_files;
+pub mod worked_runs;
 
 /// A field of the program holds 0, null or its ConstantValue, unless a `putstatic` of the program
 /// that a path reaches resolves to it.
@@ -53,6 +55,23 @@ pub fn code_frames_are_on_paths()
 pub fn code_frames_stand()
     ensures { (lifecycle : Lifecycle) (files : List ClassFile) (s : State) → EveryPathStands files → IsReachable lifecycle files s
         → AllByRecursion (IsAtInstruction files) s.frames }
+{}
+
+/// What each reachable state keeps.
+pub fn kept()
+    ensures { (lifecycle : Lifecycle) (files : List ClassFile) (s : State) → IsReachable lifecycle files s → IsKept files s }
+{}
+
+/// An object keeps its class, and an array its type, in each step and each event.
+pub fn objects_keep_their_types()
+    ensures { (lifecycle : Lifecycle) (files : List ClassFile) (s t : State) (address : ℕ) (o : Object) → Follows lifecycle files s t
+        → slice_get s.heap address ≡ Some o → KeepsType o t.heap address }
+{}
+
+/// The object of each String constant stands at the constant's number, and stays a String.
+pub fn strings_stay()
+    ensures { (lifecycle : Lifecycle) (files : List ClassFile) (s : State) (address : ℕ) (text : List ℕ) → IsReachable lifecycle files s
+        → slice_get (string_constants files) address ≡ Some text → IsString s.heap address }
 {}
 
 /// Each instruction does only what the kind of its effect allows.

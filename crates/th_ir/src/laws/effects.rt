@@ -1,12 +1,12 @@
 //! What single statements and conditions do, computed: operations, relations, and on a small state the
 //! change that a statement makes and no other.
-ghost use Rattle.std.specs.Prelude.{◌≡◌, ℤ, pos, negsuc, true, false, [], ◌∷◌, Some, None};
+ghost use Rattle.std.specs.Prelude.{◌≡◌, ℤ, pos, negsuc, true, false, [], ◌∷◌, codes, Some, None};
 ghost use Rattle.th_base.specs.declared.operation.ArithOp.TheVariants.{Add, Sub, Mul, Div, Rem, Shl, Shr, Ushr, And, Or, Xor};
 ghost use Rattle.th_base.specs.declared.operation.Elem.TheVariants.{Int as IntElem, Ref as RefElem};
 ghost use Rattle.th_base.specs.declared.operation.NarrowOp.TheVariants.{Byte as ToByte, Char as ToChar, Short as ToShort};
 ghost use Rattle.th_base.specs.declared.operation.Relation.TheVariants.{Eq, Ne, Lt, Ge, Gt, Le};
 ghost use Rattle.th_ir.specs.declared.stmt.Condition.TheVariants.{Ints, SameRef, OtherRef, IsNull, NotNull, Key, NoKey};
-ghost use Rattle.th_ir.specs.declared.stmt.Stmt.TheVariants.{Arith, Neg, AddConst, Narrow, AnyInt, Assume, GetElem, Length, NonNull};
+ghost use Rattle.th_ir.specs.declared.stmt.Stmt.TheVariants.{Arith, Neg, AddConst, Narrow, AnyInt, Assume, GetElem, PutElem, Length, NewArray, Cast, InstanceOf, NonNull};
 ghost use Rattle.th_ir.specs.Effects.{IsInt, arithmetic_of, narrowed, goes_on, sets};
 ghost use Rattle.th_ir.specs.Machine.{IntValue, NullValue, Address};
 ghost use Rattle.th_ir.specs.Worked.{reg};
@@ -62,6 +62,19 @@ pub fn elements_are_read()
     ensures second { MayMake (GetElem (reg 9) (reg 4) RefElem) (sets (reg 9) (Address 0)) }
     ensures other_kind { MakesNone (GetElem (reg 9) (reg 4) IntElem) }
     ensures length { MakesOnly (Length (reg 9) (reg 4)) (sets (reg 9) (IntValue (pos 2))) }
+{}
+
+/// A cast lets null and a subtype pass, and a test of a type gives 1 for a subtype and else 0. Nothing
+/// is stored into an array whose elements it doesn't fit, and no array has a negative length.
+pub fn types_are_tested()
+    ensures cast { MakesOnly (Cast (reg 9) (reg 4) (codes "[LA;")) (sets (reg 9) (Address 0)) }
+    ensures cast_of_null { MakesOnly (Cast (reg 9) (reg 3) (codes "[LB;")) (sets (reg 9) NullValue) }
+    ensures no_cast { MakesNone (Cast (reg 9) (reg 4) (codes "[LB;")) }
+    ensures instance { MakesOnly (InstanceOf (reg 9) (reg 4) (codes "java/lang/Object")) (sets (reg 9) (IntValue (pos 1))) }
+    ensures no_instance { MakesOnly (InstanceOf (reg 9) (reg 4) (codes "[LB;")) (sets (reg 9) (IntValue (pos 0))) }
+    ensures null { MakesOnly (InstanceOf (reg 9) (reg 3) (codes "java/lang/Object")) (sets (reg 9) (IntValue (pos 0))) }
+    ensures no_store { MakesNone (PutElem (reg 4) (reg 4)) }
+    ensures no_length { MakesNone (NewArray (reg 9) record { 0 = 2 } (reg 2)) }
 {}
 
 /// What conditions let pass, and what they don't.
