@@ -15,6 +15,7 @@ pub mod Ranges
 pub mod Realised
 pub mod Runs
 pub mod Slots
+pub mod TestedAlarms
 pub mod TestedFacts
 pub mod TestedGraph
 pub mod TestedPrograms
@@ -30,6 +31,7 @@ pub mod WorkedHandlers
 pub mod WorkedInitialisingFacts
 pub mod WorkedInitialisingForm
 pub mod WorkedInitialisingRun
+pub mod WorkedLoops
 pub mod WorkedNamingFacts
 pub mod WorkedNamingForm
 pub mod WorkedNamingRun

@@ -26,6 +26,7 @@ pub mod WorkedCharted
 pub mod WorkedEffects
 pub mod WorkedGraph
 pub mod WorkedInitialising
+pub mod WorkedLooping
 pub mod WorkedNaming
 pub mod WorkedReceivers
 pub mod WorkedStoring

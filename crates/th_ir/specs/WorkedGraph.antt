@@ -32,6 +32,10 @@ vector_edges =
     ∷ Element record { 0 = 2 } record { 0 = 0 }
     ∷ []
 
+-- each leads to the launched Activity, and to no other
+abbrev pub vector_alarms : List Alarm
+vector_alarms = alarm_at 0 12 ∷ alarm_at 4 12 ∷ []
+
 -- the constant itself, and the store of the same String
 abbrev pub naming_producers : List Producer
 naming_producers = Constant record { 0 = 0 } ∷ store_at 21 ∷ []

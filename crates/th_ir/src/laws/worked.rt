@@ -4,15 +4,17 @@ ghost use Rattle.std.specs.Prelude.{◌≡◌, ℕ, [], ◌∷◌};
 ghost use Rattle.th_base.specs.declared.lifecycle.Lifecycle.TheVariants.{Any, Chart};
 ghost use Rattle.th_ir.specs.Effects.{Change, Effect};
 ghost use Rattle.th_ir.specs.FactSets.{sets_of};
-ghost use Rattle.th_ir.specs.Graph.{AreAlarms, AreProducers, IsGraph, IsAlarm};
+ghost use Rattle.th_ir.specs.Flow.{IsLoopHead, IsMergePoint};
+ghost use Rattle.th_ir.specs.Graph.{AreAlarms, AreProducers, IsGraph};
 ghost use Rattle.th_ir.specs.Harness.{HasHarness};
 ghost use Rattle.th_ir.specs.Machine.{RegState, RegValue, Address};
 ghost use Rattle.th_ir.specs.Rules.{LeastFacts};
 ghost use Rattle.th_ir.specs.Step.{RegReachable, RegStep};
 ghost use Rattle.th_ir.specs.WellFormed.{IsWellFormed};
 ghost use Rattle.th_ir.specs.WorkedCharted.{charted_program, charted_30, refused_3, IsAtStage};
-ghost use Rattle.th_ir.specs.WorkedGraph.{static_edge, storing_edges, storing_alarms, vector_edges, naming_producers, alarm_at};
+ghost use Rattle.th_ir.specs.WorkedGraph.{static_edge, storing_edges, storing_alarms, vector_edges, vector_alarms, naming_producers};
 ghost use Rattle.th_ir.specs.WorkedInitialising.{initialising_classes, initialising_program, initialising_facts, initialising_14, initialising_28, initialising_32};
+ghost use Rattle.th_ir.specs.WorkedLooping.{looping_program};
 ghost use Rattle.th_ir.specs.WorkedNaming.{naming_classes, naming_program, naming_facts, naming_0, naming_13};
 ghost use Rattle.th_ir.specs.WorkedReceivers.{receivers_classes, receivers_program, receivers_facts, receivers_41, receivers_50, HoldsElements};
 ghost use Rattle.th_ir.specs.WorkedStoring.{storing_classes, storing_program, storing_facts, storing_9, storing_17, of_a_bundle, picks};
@@ -128,13 +130,21 @@ pub fn alarm_is_on_the_class_itself()
 {}
 
 /// A static field of the program of growing arrays leads to the launched Activity through an element, and
-/// another through a field and an element.
+/// another through a field and an element. There is no third alarm.
 pub fn alarms_stand_on_paths()
-    ensures element { IsAlarm vector_classes vector_program vector_edges (alarm_at 0 12) }
-    ensures field_and_element { IsAlarm vector_classes vector_program vector_edges (alarm_at 4 12) }
+    ensures { AreAlarms vector_classes vector_program vector_edges vector_alarms }
 {}
 
 /// The constant of a static field is the first producer of its edge, before the store of the same String.
 pub fn constant_is_the_first_producer()
     ensures { AreProducers naming_classes naming_program (sets_of naming_facts) (static_edge 0 0) naming_producers }
+{}
+
+/// A node to which Copies lead is a loop head where a path leads back to it, and not where only branches
+/// meet; no other node is one.
+pub fn loop_heads_lie_on_loops()
+    ensures head { IsLoopHead looping_program 1 }
+    ensures meeting { IsMergePoint looping_program 7 }
+    ensures no_way_back { IsLoopHead looping_program 7 → ⊥ }
+    ensures no_copy { IsLoopHead looping_program 2 → ⊥ }
 {}

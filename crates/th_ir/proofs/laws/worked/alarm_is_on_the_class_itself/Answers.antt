@@ -1,5 +1,5 @@
-use Rattle.th_ir.proofs.WorkedGraphs.{storing_alarm}
+use Rattle.th_ir.proofs.WorkedGraphs.{storing_alarms_are}
 use Rattle.th_ir.proofs.laws.worked.alarm_is_on_the_class_itself.Goals as goal
 
 pub returns : goal.returns
-returns c = storing_alarm
+returns c = storing_alarms_are
