@@ -50,25 +50,32 @@ pub record IsOnReceiver (files : List ClassFile) (t : Top) (m : Invoked) (taken 
 
 -- the method that a call takes
 pub data Takes (files : List ClassFile) (t : Top) : Instr → ℕ → Type 0 where
-  by_virtual : {method : ℕ} (r : MemberRef) (m : Invoked) → invoked files r ≡ Some m → IsOnReceiver files t m (selected_for (hierarchy_of files) m.method) method
+  by_virtual : {method : ℕ} (r : MemberRef) (m : Invoked) → invoked files r ≡ Some m
+      → IsOnReceiver files t m (selected_for (hierarchy_of files) m.method) method
       → Takes files t (InvokeVirtual r) method
-  by_special : {method : ℕ} (r : MemberRef) (m : Invoked) → invoked files r ≡ Some m → IsOnReceiver files t m (λ c. special_method files t.method m) method
+  by_special : {method : ℕ} (r : MemberRef) (m : Invoked) → invoked files r ≡ Some m
+      → IsOnReceiver files t m (λ c. special_method files t.method m) method
       → Takes files t (InvokeSpecial r) method
-  by_interface : {method : ℕ} (r : MemberRef) (m : Invoked) → invoked files r ≡ Some m → IsOnReceiver files t m (selected_for (hierarchy_of files) m.method) method
+  by_interface : {method : ℕ} (r : MemberRef) (m : Invoked) → invoked files r ≡ Some m
+      → IsOnReceiver files t m (selected_for (hierarchy_of files) m.method) method
       → Takes files t (InvokeInterface r) method
-  by_static : (r : MemberRef) (m : Invoked) → invoked files r ≡ Some m → IsInitialised t.state m.declaring → Takes files t (InvokeStatic r) m.method.id.0
+  by_static : (r : MemberRef) (m : Invoked) → invoked files r ≡ Some m → IsInitialised t.state m.declaring
+      → Takes files t (InvokeStatic r) m.method.id.0
 
 -- what an instruction may do where it finds this
 pub data IsAllowed (files : List ClassFile) (t : Top) (i : Instr) : Effect → Type 0 where
   stuck : IsAllowed files t i Stuck
   ends : IsAllowed files t i Ends
   goes_on : {locals stack : List Slot} → FallsThrough i → IsAllowed files t i (GoesOn locals stack)
-  jumps : {target : ℕ} {stack : List Slot} → ((behind : List ℕ) → has (leads_to behind i) target ≡ true) → IsAllowed files t i (Jumps target stack)
+  jumps : {target : ℕ} {stack : List Slot} → ((behind : List ℕ) → has (leads_to behind i) target ≡ true)
+      → IsAllowed files t i (Jumps target stack)
   -- only a `putstatic` sets a static field, that to which it resolves, of a class that is initialised
-  sets_static : {v : Value} {stack : List Slot} (r : MemberRef) (f : ℕ × FieldInfo) → i ≡ PutStatic r → field_resolved files r ≡ Some f → IsInitialised t.state f.0
+  sets_static : {v : Value} {stack : List Slot} (r : MemberRef) (f : ℕ × FieldInfo) → i ≡ PutStatic r → field_resolved files r ≡ Some f
+      → IsInitialised t.state f.0
       → IsAllowed files t i (SetsStatic f.1.id.0 v stack)
   -- an object keeps its class, and an array its type
-  sets_object : {a : ℕ} {o : Object} {stack : List Slot} (old : Object) → FallsThrough i → slice_get t.state.heap a ≡ Some old → AreOfOneType old o
+  sets_object : {a : ℕ} {o : Object} {stack : List Slot} (old : Object) → FallsThrough i → slice_get t.state.heap a ≡ Some old
+      → AreOfOneType old o
       → IsAllowed files t i (SetsObject a o stack)
   -- only a `new` makes an object, of the class that it names, which is initialised
   makes_instance : {stack : List Slot} (name : List ℕ) (c : ℕ) → i ≡ New name → number_named files name ≡ Some c → IsInitialised t.state c
@@ -114,22 +121,32 @@ pub data IsChange (lifecycle : Lifecycle) (files : List ClassFile) (s : State) :
       → s.frames ≡ CodeFrame method offset locals stack ∷ below → IsEdge files method.0 offset next
       → IsChange lifecycle files s (with_frames s (CodeFrame method next locals_after stack_after ∷ below))
   -- and sets the static field to which a `putstatic` resolves
-  sets_a_static : (method : MethodId) (offset next : ℕ) (locals stack stack_after : List Slot) (below : List Frame) (v : Value) (r : MemberRef) (f : ℕ × FieldInfo)
+  sets_a_static : (method : MethodId) (offset next : ℕ) (locals stack stack_after : List Slot) (below : List Frame) (v : Value)
+      (r : MemberRef) (f : ℕ × FieldInfo)
       → s.frames ≡ CodeFrame method offset locals stack ∷ below → IsEdge files method.0 offset next
       → instr_at files method.0 offset ≡ Some (PutStatic r) → field_resolved files r ≡ Some f → IsInitialised s f.0
-      → IsChange lifecycle files s (record s { statics = slice_set s.statics f.1.id.0 v; frames = CodeFrame method next locals stack_after ∷ below })
+      → IsChange lifecycle files s (record s {
+        statics = slice_set s.statics f.1.id.0 v;
+        frames = CodeFrame method next locals stack_after ∷ below;
+      })
   -- and sets a field of an object, or an element of an array
-  sets_an_object : (method : MethodId) (offset next : ℕ) (locals stack stack_after : List Slot) (below : List Frame) (a : ℕ) (old o : Object)
+  sets_an_object : (method : MethodId) (offset next : ℕ) (locals stack stack_after : List Slot) (below : List Frame)
+      (a : ℕ) (old o : Object)
       → s.frames ≡ CodeFrame method offset locals stack ∷ below → IsEdge files method.0 offset next
       → slice_get s.heap a ≡ Some old → AreOfOneType old o
       → IsChange lifecycle files s (record s { heap = slice_set s.heap a o; frames = CodeFrame method next locals stack_after ∷ below })
   -- and makes an object of the class that a `new` names
-  makes_an_instance : (method : MethodId) (offset next : ℕ) (locals stack stack_after : List Slot) (below : List Frame) (name : List ℕ) (c : ℕ)
+  makes_an_instance : (method : MethodId) (offset next : ℕ) (locals stack stack_after : List Slot) (below : List Frame)
+      (name : List ℕ) (c : ℕ)
       → s.frames ≡ CodeFrame method offset locals stack ∷ below → IsEdge files method.0 offset next
       → instr_at files method.0 offset ≡ Some (New name) → number_named files name ≡ Some c → IsInitialised s c
-      → IsChange lifecycle files s (record s { heap = s.heap ++ new_object files c ∷ []; frames = CodeFrame method next locals stack_after ∷ below })
+      → IsChange lifecycle files s (record s {
+        heap = s.heap ++ new_object files c ∷ [];
+        frames = CodeFrame method next locals stack_after ∷ below;
+      })
   -- and makes an array, whose elements are 0 or null
-  makes_an_array : (method : MethodId) (offset next : ℕ) (locals stack stack_after : List Slot) (below : List Frame) (component : List ℕ) (count : ℕ)
+  makes_an_array : (method : MethodId) (offset next : ℕ) (locals stack stack_after : List Slot) (below : List Frame)
+      (component : List ℕ) (count : ℕ)
       → s.frames ≡ CodeFrame method offset locals stack ∷ below → IsEdge files method.0 offset next
       → IsChange lifecycle files s (record s {
         heap = s.heap ++ Array (array_descriptor component) (replicate count (default_value component)) ∷ [];
@@ -137,15 +154,18 @@ pub data IsChange (lifecycle : Lifecycle) (files : List ClassFile) (s : State) :
       })
   -- an instruction opens an untouched class
   opens_class : (c : ℕ) (method : MethodId) (offset : ℕ) (locals stack : List Slot) (below : List Frame)
-      → s.frames ≡ CodeFrame method offset locals stack ∷ below → slice_get s.marks c ≡ Some Untouched → IsChange lifecycle files s (opened files s c)
+      → s.frames ≡ CodeFrame method offset locals stack ∷ below → slice_get s.marks c ≡ Some Untouched
+      → IsChange lifecycle files s (opened files s c)
   -- a call: the frame on top waits, and a method's code begins
-  calls_method : (method : MethodId) (offset taken : ℕ) (locals stack stack_after arguments : List Slot) (below : List Frame) (i : Instr) (code : Code)
+  calls_method : (method : MethodId) (offset taken : ℕ) (locals stack stack_after arguments : List Slot) (below : List Frame)
+      (i : Instr) (code : Code)
       → s.frames ≡ CodeFrame method offset locals stack ∷ below → instr_at files method.0 offset ≡ Some i
       → Takes files (top_at s method offset locals stack below) i taken → code_of files taken ≡ Some code
       → IsChange lifecycle files s (with_frames s (
       CodeFrame (method_id taken) 0 (locals_with arguments code.max_locals) [] ∷ CodeFrame method offset locals stack_after ∷ below))
   -- a return to a frame that waits, which goes on behind its call
-  returns_to : (method caller : MethodId) (offset waiting next : ℕ) (locals stack results locals_below stack_below : List Slot) (below : List Frame)
+  returns_to : (method caller : MethodId) (offset waiting next : ℕ) (locals stack results locals_below stack_below : List Slot)
+      (below : List Frame)
       → s.frames ≡ CodeFrame method offset locals stack ∷ CodeFrame caller waiting locals_below stack_below ∷ below
       → next_offset files caller.0 waiting ≡ Some next
       → IsChange lifecycle files s (with_frames s (CodeFrame caller next locals_below (results ++ stack_below) ∷ below))
@@ -168,7 +188,8 @@ pub data IsChange (lifecycle : Lifecycle) (files : List ClassFile) (s : State) :
   initialised_class : (c : ClassId) (below : List Frame) → s.frames ≡ InitFrame c EndInit ∷ below
       → IsChange lifecycle files s (record s { marks = slice_set s.marks c.0 Done; frames = below })
   -- a launch finds its class open, or opens it
-  finds_class : (c : ClassId) (below : List Frame) → s.frames ≡ LaunchFrame c OpenClass ∷ below → (slice_get s.marks c.0 ≡ Some Untouched → ⊥)
+  finds_class : (c : ClassId) (below : List Frame) → s.frames ≡ LaunchFrame c OpenClass ∷ below
+      → (slice_get s.marks c.0 ≡ Some Untouched → ⊥)
       → IsChange lifecycle files s (with_frames s (LaunchFrame c MakeObject ∷ below))
   opens_launched : (c : ClassId) (below : List Frame) → s.frames ≡ LaunchFrame c OpenClass ∷ below → slice_get s.marks c.0 ≡ Some Untouched
       → IsChange lifecycle files s (opened files (with_frames s (LaunchFrame c MakeObject ∷ below)) c.0)
@@ -177,13 +198,16 @@ pub data IsChange (lifecycle : Lifecycle) (files : List ClassFile) (s : State) :
       → declared_method (hierarchy_of files) (codes "<init>") (codes "()V") c.0 ≡ Some m → code_of files m.id.0 ≡ Some code
       → IsChange lifecycle files s (record s {
         heap = s.heap ++ new_object files c.0 ∷ [];
-        frames = CodeFrame m.id 0 (locals_with (Holds (Address (length s.heap)) ∷ []) code.max_locals) [] ∷ LaunchFrame c (EndLaunch (length s.heap)) ∷ below;
+        frames =
+            CodeFrame m.id 0 (locals_with (Holds (Address (length s.heap)) ∷ []) code.max_locals) []
+            ∷ LaunchFrame c (EndLaunch (length s.heap)) ∷ below;
       })
   -- it ends
   launches_object : (c : ClassId) (object : ℕ) (below : List Frame) → s.frames ≡ LaunchFrame c (EndLaunch object) ∷ below
       → IsChange lifecycle files s (record s { launched = s.launched ++ record { object = object; stage = 0 } ∷ []; frames = below })
   -- the harness begins a launch
-  begins_launch : (c : ClassId) → s.frames ≡ [] → is_launchable files c.0 ≡ true → IsChange lifecycle files s (with_frames s (LaunchFrame c OpenClass ∷ []))
+  begins_launch : (c : ClassId) → s.frames ≡ [] → is_launchable files c.0 ≡ true
+      → IsChange lifecycle files s (with_frames s (LaunchFrame c OpenClass ∷ []))
   -- the harness calls a handler, which sets the stage of the launched object
   begins_handler : (place number stage method : ℕ) (l : Launched) (h : Handler) (fresh : Bool) (code : Code) → s.frames ≡ []
       → slice_get s.launched place ≡ Some l → slice_get handlers number ≡ Some h → stage_after lifecycle h l.stage ≡ Some stage
