@@ -7,3 +7,5 @@ pub mod Sound
 pub mod Ascending
 pub mod Spelling
 pub mod Methods
+pub mod Faults
+pub mod Texts

@@ -4,3 +4,5 @@ pub mod First
 pub mod Shapes
 pub mod Types
 pub mod Params
+pub mod Texts
+pub mod Members

@@ -8,7 +8,7 @@ use crate::place::Place;
 use byteorder::{BigEndian, ByteOrder};
 use th_syntax::Flaw;
 
-// The next bytes, so many.
+/// The next bytes, so many. Refused where fewer are left: number 2, at the place.
 #[tactic(auto, unfolding(th_syntax::specs::Forms::read, th_syntax::specs::ClassBytes::run))]
 pub fn run<'a>(place: Place<'a>, count: usize) -> Result<(&'a [u8], Place<'a>), Flaw>
     ensures len { IfOk result (λ x. length x.0.now ≡ count) }
@@ -25,6 +25,7 @@ pub fn run<'a>(place: Place<'a>, count: usize) -> Result<(&'a [u8], Place<'a>), 
     Ok((bytes, Place { at, rest }))
 }
 
+/// The next byte as a number. Refused where none is left: number 2, at the place.
 #[tactic(auto, using(crate::proofs::Numbers::number_stops))]
 pub fn u1(place: Place) -> Result<(u8, Place), Flaw>
     ensures { Gives (number_at place.entry.at) result (read u1 place.entry.at place.entry.rest.now) }
@@ -33,6 +34,8 @@ pub fn u1(place: Place) -> Result<(u8, Place), Flaw>
     Ok((bytes[0], after))
 }
 
+/// The next two bytes as a number, the highest first (Java specification 4). Refused where fewer are
+/// left: number 2, at the place.
 #[tactic(auto, using(crate::proofs::Numbers::number_stops))]
 pub fn u2(place: Place) -> Result<(u16, Place), Flaw>
     ensures { Gives (number_at place.entry.at) result (read u2 place.entry.at place.entry.rest.now) }
@@ -41,6 +44,8 @@ pub fn u2(place: Place) -> Result<(u16, Place), Flaw>
     Ok((BigEndian::read_u16(bytes), after))
 }
 
+/// The next four bytes as a number, the highest first (Java specification 4). Refused where fewer are
+/// left: number 2, at the place.
 #[tactic(auto, using(crate::proofs::Numbers::number_stops))]
 pub fn u4(place: Place) -> Result<(u32, Place), Flaw>
     ensures { Gives (number_at place.entry.at) result (read u4 place.entry.at place.entry.rest.now) }
@@ -69,6 +74,7 @@ pub fn handle(place: Place) -> Result<((u8, u16), Place), Flaw>
     Ok(((kind, reference), place))
 }
 
+// Two indices.
 #[tactic(auto, using(crate::proofs::Parts::parts))]
 pub fn two_indices(place: Place) -> Result<((u16, u16), Place), Flaw>
     ensures { Gives pair_of result (read two_indices place.entry.at place.entry.rest.now) }
@@ -78,6 +84,7 @@ pub fn two_indices(place: Place) -> Result<((u16, u16), Place), Flaw>
     Ok(((first, second), place))
 }
 
+// Two numbers of four bytes.
 #[tactic(auto, using(crate::proofs::Parts::parts))]
 pub fn two_words(place: Place) -> Result<((u32, u32), Place), Flaw>
     ensures { Gives pair_of result (read two_words place.entry.at place.entry.rest.now) }

@@ -1,11 +1,12 @@
 // What indices of the pool lead to, over the list of what each index leads to.
-ghost use Rattle.std.specs.Prelude.{◌≡◌};
-ghost use Rattle.std.specs.Option.{option_copied, option_map, option_and_then};
+ghost use Rattle.std.specs.Prelude.{◌≡◌, slice_get};
+ghost use Rattle.std.specs.Option.{option_and_then, option_copied, option_flatten, option_map};
 ghost use Rattle.th_syntax.specs.ClassBytes as file;
 ghost use Rattle.th_syntax.specs.PoolChecks as checks;
 ghost use Rattle.th_pool.specs.PoolView.{entry_view, slots_view, member_view, names_view};
 
 use crate::entry::{Entry, PlacedEntry};
+use crate::pool_text::PoolText;
 
 // A field or a method: the tag of its entry, its owner, its name and its descriptor.
 pub type NamedMember<'a> = (u8, &'a [u8], &'a [u8], &'a [u8]);
@@ -136,6 +137,27 @@ pub fn member_of<'a>(slots: &[Option<PlacedEntry<'a>>], index: u16) -> Option<Na
         Some(Entry::Field(owner, named)) => member_by(slots, 9, owner, named),
         Some(Entry::Method(owner, named)) => member_by(slots, 10, owner, named),
         Some(Entry::InterfaceMethod(owner, named)) => member_by(slots, 11, owner, named),
+        _ => None,
+    }
+}
+
+/// A field or a method that an entry of the pool leads to (Java specification 4.4.2).
+#[derive(Clone, Copy, Debug)]
+pub struct PoolMember<'a> {
+    /// The tag of the entry: that of a Fieldref, a Methodref or an InterfaceMethodref.
+    pub tag: u8,
+    /// The class or the array type, as the entry names it.
+    pub owner: &'a PoolText,
+    pub name: &'a PoolText,
+    pub descriptor: &'a PoolText,
+}
+
+// The text at an index, of the list of the texts.
+pub fn text_at(texts: &[Option<PoolText>], index: u16) -> Option<&PoolText>
+    ensures { option_copied result ≡ option_flatten (slice_get texts.now index) }
+{
+    match texts.get(index as usize) {
+        Some(Some(text)) => Some(text),
         _ => None,
     }
 }

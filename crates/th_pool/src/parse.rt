@@ -4,6 +4,8 @@ ghost use Rattle.std.specs.Option.{option_map};
 ghost use Rattle.th_syntax.specs.Descriptors as types;
 ghost use Rattle.th_pool.specs.Shapes.{AnswersShape, field_shape, method_shape, slot_size};
 ghost use Rattle.th_pool.specs.Types.{type_seen};
+ghost use Rattle.th_syntax.specs.CodeBytes.{type_numbers, method_type_numbers};
+ghost use Rattle.th_pool.specs.Texts.{fault_numbers};
 ghost use Rattle.th_pool.specs.Params.{field_answer, method_answer, method_seen, params_found, parts_view, pushed, params_view};
 
 use crate::descriptor::{ParsedType, split_front, type_at};
@@ -53,6 +55,19 @@ pub fn parse_field(descriptor: &Text) -> Result<FieldShape, DescriptorFault>
 {
     let found = whole_type(descriptor.as_bytes());
     field_of(found)
+}
+
+/// What is wrong with the descriptor of a field; `None` exactly where it is well formed and has neither
+/// `float` nor `double`.
+#[tactic(auto, using(crate::proofs::Faults::faults))]
+pub fn field_fault(descriptor: &[u8]) -> Option<DescriptorFault>
+    ensures { fault_numbers result ≡ type_numbers (types.field_type_of descriptor.now) }
+{
+    let found = whole_type(descriptor);
+    match field_of(found) {
+        Ok(_) => None,
+        Err(fault) => Some(fault),
+    }
 }
 
 // Adds a parameter.
@@ -191,5 +206,18 @@ pub fn parse_method(alloc: Global, descriptor: &Text) -> Result<MethodShape, Fai
     match method_of(params, returned) {
         Ok(shape) => Ok(shape),
         Err(fault) => Err(Fail::Refused(fault)),
+    }
+}
+
+/// What is wrong with the descriptor of a method; `None` exactly where it is well formed and has neither
+/// `float` nor `double`. Memory is taken for the parameters, and given back.
+#[tactic(auto, using(crate::proofs::Faults::faults))]
+pub fn method_fault(alloc: Global, descriptor: &Text) -> Result<Option<DescriptorFault>, AllocError>
+    ensures { IfOk result (λ fault. fault_numbers fault ≡ method_type_numbers (types.method_type_of descriptor.now)) }
+{
+    match parse_method(alloc, descriptor) {
+        Ok(_) => Ok(None),
+        Err(Fail::Refused(fault)) => Ok(Some(fault)),
+        Err(Fail::NoMemory) => Err(AllocError),
     }
 }

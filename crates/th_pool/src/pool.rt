@@ -1,16 +1,19 @@
 // The constant pool of a class file.
 ghost use Rattle.std.specs.Prelude.{◌≡◌, ◌↔◌, ◌+◌, ◌^◌, ◌<◌, ◌≤◌, ◌||◌, [], length, drop, IsOk, IfOk, IfErr, is_some};
-ghost use Rattle.std.specs.Option.{option_copied};
+ghost use Rattle.std.specs.Option.{option_and_then, option_copied, option_map};
 ghost use Rattle.th_syntax.specs.Forms.{Stands, IsFlawed, read};
 ghost use Rattle.th_syntax.specs.ClassBytes as file;
 ghost use Rattle.th_syntax.specs.PoolChecks as checks;
 ghost use Rattle.th_syntax.specs.Flaws.{IsFirst};
 ghost use Rattle.th_pool.specs.Gives.{Answers, IfRefused, end_at};
 ghost use Rattle.th_pool.specs.PoolView.{member_view};
+ghost use Rattle.th_pool.specs.Members.{texts_member, texts_names};
 
 use crate::check::check_entries;
-use crate::lookup;
+use crate::entry::Entry;
+use crate::lookup::{self, PoolMember};
 use crate::place::Place;
+use crate::pool_text::{PoolText, texts_of};
 use crate::slots::{Slots, pool_slots};
 use std::alloc::Global;
 use std::marker::Model;
@@ -23,11 +26,14 @@ use th_syntax::laws::class_files::pool_reading;
 pub struct Pool<'a> {
     // What each index leads to, from index 0 on.
     slots: Slots<'a>,
+    // The text that each index leads to, where it leads to a Utf8 entry.
+    texts: Vec<Option<PoolText>>,
 }
 
 impl<'a> Model for Pool<'a> {
-    ghost use Rattle.std.specs.Prelude.{IsTrue};
+    ghost use Rattle.std.specs.Prelude.{◌≡◌, IsTrue};
     ghost use Rattle.th_pool.specs.PoolView.{slots_view};
+    ghost use Rattle.th_pool.specs.Texts.{texts_in};
     ghost use Rattle.th_syntax.specs.ClassBytes as file;
     ghost use Rattle.th_syntax.specs.PoolChecks.{entries_ascend};
 
@@ -35,14 +41,15 @@ impl<'a> Model for Pool<'a> {
 
     ghost view = { λ p. slots_view p.slots.items };
 
-    ghost invariant = { λ p. IsTrue (entries_ascend 0 (slots_view p.slots.items)) };
+    ghost invariant = { λ p. IsTrue (entries_ascend 0 (slots_view p.slots.items)) × (p.texts.items ≡ texts_in (slots_view p.slots.items)) };
 }
 
 /// The pool whose count stands at an offset of a file, and the offset behind its last entry.
 ///
 /// Refused are a pool whose count is 0, an unknown tag, a Long or Double whose second index isn't
 /// below the count (number 4), and an item that goes past the end of the file (number 2): the first
-/// of these. Space is taken for entries that lie within the bytes alone, however great the count is.
+/// of these. Space is taken for entries that lie within the bytes alone, however great the count is:
+/// the bytes of each Utf8 entry are copied once, into its `PoolText`.
 pub fn read_pool<'a>(
     alloc: Global,
     bytes: &'a [u8],
@@ -61,7 +68,8 @@ pub fn read_pool<'a>(
         rest,
     };
     let (slots, behind) = pool_slots(alloc, place)?;
-    Ok((Pool { slots }, behind.at as usize))
+    let texts = texts_of(alloc, slots.as_slice())?;
+    Ok((Pool { slots, texts }, behind.at as usize))
 }
 
 impl Pool<'_> {
@@ -134,5 +142,73 @@ impl Pool<'_> {
         ensures there { is_some result ≡ (checks.has_tag self.now index 9 || checks.has_tag self.now index 10 || checks.has_tag self.now index 11) }
     {
         lookup::member_of(self.slots.as_slice(), index)
+    }
+
+    /// The text of a Utf8 entry; `None` exactly where the index leads to no such entry.
+    pub fn text(&self, index: u16) -> Option<&PoolText>
+        ensures { option_copied result ≡ checks.utf8_of self.now index }
+    {
+        lookup::text_at(self.texts.as_slice(), index)
+    }
+
+    /// The name of a Class entry; `None` exactly where the index leads to no such entry, or the entry
+    /// to no name.
+    pub fn class_text(&self, index: u16) -> Option<&PoolText>
+        ensures { option_copied result ≡ checks.class_of self.now index }
+    {
+        match lookup::entry_of(self.slots.as_slice(), index) {
+            Some(Entry::Class(name)) => self.text(name),
+            _ => None,
+        }
+    }
+
+    /// The text of a String entry; `None` exactly where the index leads to no such entry, or the entry
+    /// to no text.
+    pub fn string_text(&self, index: u16) -> Option<&PoolText>
+        ensures { option_copied result ≡ checks.string_of self.now index }
+    {
+        match lookup::entry_of(self.slots.as_slice(), index) {
+            Some(Entry::String(text)) => self.text(text),
+            _ => None,
+        }
+    }
+
+    // The name and the descriptor of a NameAndType entry.
+    fn names_texts(&self, index: u16) -> Option<(&PoolText, &PoolText)>
+        ensures { texts_names result ≡ option_and_then (checks.names_in self.now) (checks.entry_of self.now index) }
+    {
+        match lookup::entry_of(self.slots.as_slice(), index) {
+            Some(Entry::NameAndType(name, descriptor)) => {
+                Some((self.text(name)?, self.text(descriptor)?))
+            }
+            _ => None,
+        }
+    }
+
+    // The member of a class that a NameAndType entry names, under the tag of its own entry.
+    fn member_by(&self, tag: u8, owner: u16, named: u16) -> Option<PoolMember>
+        ensures { texts_member result ≡ option_map (λ m. (tag, m)) (checks.member_by self.now owner named) }
+    {
+        let owner = self.class_text(owner)?;
+        let (name, descriptor) = self.names_texts(named)?;
+        Some(PoolMember {
+            tag,
+            owner,
+            name,
+            descriptor,
+        })
+    }
+
+    /// The member that a Fieldref, Methodref or InterfaceMethodref entry leads to; `None` exactly
+    /// where the index leads to no such entry, or the entry to no member.
+    pub fn member_texts(&self, index: u16) -> Option<PoolMember>
+        ensures { texts_member result ≡ checks.tagged_member_of self.now index }
+    {
+        match lookup::entry_of(self.slots.as_slice(), index) {
+            Some(Entry::Field(owner, named)) => self.member_by(9, owner, named),
+            Some(Entry::Method(owner, named)) => self.member_by(10, owner, named),
+            Some(Entry::InterfaceMethod(owner, named)) => self.member_by(11, owner, named),
+            _ => None,
+        }
     }
 }

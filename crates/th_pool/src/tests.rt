@@ -1,4 +1,7 @@
-use crate::{DescriptorFault, MethodShape, Pool, Slot, parse_field, parse_method, read_pool};
+use crate::{
+    DescriptorFault, MethodShape, Place, Pool, PoolText, Slot, parse_field, parse_method,
+    read_pool, run, u1, u2, u4,
+};
 use std::alloc::Global;
 use std::test::Fail;
 use th_base::Text;
@@ -296,5 +299,77 @@ fn limits_of_descriptors(rt: HostRuntime) -> Result<(), Fail> {
         let text = Text::from_vec(bytes)?;
         assert_eq!(rt; parse_field(&text).is_ok(), good);
     }
+    Ok(())
+}
+
+fn has_text(found: Option<&PoolText>, want: &[u8]) -> bool {
+    match found {
+        Some(text) => text.text().as_bytes() == want,
+        None => false,
+    }
+}
+
+// Whether a text is a name of a class, of a field and of a method, one that each instruction may call
+// and one that invokespecial may call, and is well formed as a descriptor of a field, of a method, and
+// as the operand of a class or an array.
+fn answers_of(found: Option<&PoolText>) -> [bool; 8] {
+    match found {
+        Some(text) => [
+            text.is_class_name(),
+            text.is_field_name(),
+            text.is_method_name(),
+            text.is_callable(false),
+            text.is_callable(true),
+            text.field_fault().is_none(),
+            text.method_fault().is_none(),
+            text.class_or_array_fault().is_none(),
+        ],
+        None => [false; 8],
+    }
+}
+
+#[test]
+fn texts_of_a_small_class(rt: HostRuntime) -> Result<(), Fail> {
+    let (pool, _) = read_pool(rt.alloc(), ACT, 8)?;
+    assert!(rt; has_text(pool.text(2), b"Act"));
+    assert!(rt; pool.text(1).is_none());
+    assert!(rt; has_text(pool.class_text(3), b"android/app/Activity"));
+    assert!(rt; pool.string_text(3).is_none());
+    match pool.member_texts(8) {
+        Some(member) => {
+            assert_eq!(rt; member.tag, 10);
+            assert!(rt; has_text(Some(member.owner), b"android/app/Activity"));
+            assert!(rt; has_text(Some(member.name), b"<init>"));
+            assert!(rt; has_text(Some(member.descriptor), b"()V"));
+        }
+        None => assert!(rt; false),
+    }
+    let table = [
+        (2, [true, true, true, true, true, false, false, true]),
+        (4, [true, false, false, true, true, false, false, true]),
+        (5, [true, true, true, false, true, false, false, true]),
+        (6, [true, true, true, true, true, false, true, true]),
+    ];
+    for (index, want) in table {
+        assert_eq!(rt; answers_of(pool.text(index)), want, "at {index}");
+    }
+    Ok(())
+}
+
+#[test]
+fn items_at_a_place(rt: HostRuntime) -> Result<(), Fail> {
+    let bytes: &[u8] = b"\x01\x02\x03\x04\x05\x06\x07\x08";
+    let start = Place {
+        at: 10,
+        rest: bytes,
+    };
+    let (one, place) = u1(start)?;
+    let (two, place) = u2(place)?;
+    let (four, place) = u4(place)?;
+    let (last, place) = run(place, 1)?;
+    assert_eq!(rt; (one, two, four), (1, 0x203, 0x4050607));
+    assert_eq!(rt; last, b"\x08".as_slice());
+    assert_eq!(rt; place.at, 18);
+    assert!(rt; u1(place).is_err());
     Ok(())
 }

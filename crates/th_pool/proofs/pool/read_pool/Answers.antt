@@ -1,11 +1,15 @@
-use Rattle.std.proofs.Common.{drop}
+use Rattle.std.proofs.Common.{drop, ap, ◌∙◌}
 use Rattle.th_syntax.specs.ClassBytes as file
+use Rattle.th_pool.specs.PoolView.{slots_view}
+use Rattle.th_pool.specs.Texts.{texts_in}
 use Rattle.th_pool.proofs.Ascending.{pool_ascends, pool_in_file}
 use Rattle.th_pool.proofs.pool.read_pool.Goals as goal
 
 pub invariant_of-result : goal.invariant_of-result
-invariant_of-result c =
-    pool_ascends c.args.at (drop c.args.at c.args.bytes.now) _ (pool_in_file c.args.at c.args.bytes.now c.split_at.result.1.now _ _ _ c.split_at.ensures.back c.in_ok-slots.ensures)
+invariant_of-result c = (
+  pool_ascends c.args.at (drop c.args.at c.args.bytes.now) _ (pool_in_file c.args.at c.args.bytes.now c.split_at.result.1.now _ _ _ c.split_at.ensures.back c.in_ok-slots.ensures),
+  c.in_ok-texts.ensures ∙ ap (λ (slots : _). texts_in (slots_view slots)) c.as_slice.ensures.value,
+)
 
 pub returns-clause-found : goal.returns-clause-found
 returns-clause-found c =

@@ -16,5 +16,5 @@ first_of pool (Err flaw) up begins = is_first pool flaw begins.0 up begins.1
 pub returns-clause-first : goal.returns-clause-first
 returns-clause-first c =
     let pool_is : slots_view c.as_slice.result.now ≡ c.args.self.now = ap slots_view c.as_slice.ensures.value ∙ c.self.view_is in
-    let up : entries_ascend 0 c.args.self.now ≡ true = ap (entries_ascend 0) (sym c.self.view_is) ∙ c.self.invariant in
+    let up : entries_ascend 0 c.args.self.now ≡ true = ap (entries_ascend 0) (sym c.self.view_is) ∙ c.self.invariant.0 in
     first_of c.args.self.now c.check_entries.result up (subst (λ (p : Pool). BeginsWith (entry_flaws p) c.check_entries.result) pool_is c.check_entries.ensures)
