@@ -17,3 +17,7 @@ mod WorkedFiles
 pub mod Allowing
 pub mod Changing
 pub mod Acting
+pub mod MergingKinds
+pub mod KindsBehind
+pub mod LeastKinds
+mod WorkedKinds
