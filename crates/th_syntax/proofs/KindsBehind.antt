@@ -1,11 +1,11 @@
 -- What an instruction makes of two kinds that are merged is what it makes of each, merged.
-use Rattle.std.proofs.Common.{◌≡◌, ℕ, zero, suc, ◌+◌, ◌-◌, ◌≤◌, ◌==◌, Bool, true, false, cond, List, [], ◌∷◌, ◌++◌, length, map, drop, get_or, set, refl, sym, ap, ◌∙◌, arith, length-append}
+use Rattle.std.proofs.Common.{◌≡◌, ℕ, zero, suc, ◌+◌, ◌-◌, ◌≤◌, ◌==◌, Bool, true, false, cond, List, [], ◌∷◌, ◌++◌, length, map, drop, reverse, get_or, set, refl, sym, ap, ◌∙◌, arith, length-append}
 use Rattle.std.specs.Prelude.{nat_le}
 use Rattle.std.proofs.lemmas.Bool.{eq-eqb, eqb-true, ne_eqb, eqb-false, leb-true, leb-false}
 use Rattle.std.proofs.lemmas.List.{length-drop, length-map}
 use Rattle.th_syntax.specs.declared.kind.SlotKind.TheVariants as kind
 use Rattle.th_syntax.specs.Kinds.{SlotKind, merged, merged_slots, KindsAt, NoKinds, OfKinds, DepthsDiffer, merged_at}
-use Rattle.th_syntax.specs.KindRows.{KindRow, Works, Loads, Stores, Increments, Moves, on_stack, slots_of, slots_taken, slots_given, stack_after, without_second, without_first, changed, written, stored, locals_after, after}
+use Rattle.th_syntax.specs.KindRows.{KindRow, Works, Loads, Stores, Increments, Moves, slots_of, slots_taken, slots_given, stack_after, without_second, without_first, changed, written, stored, locals_after, after}
 use Rattle.th_syntax.proofs.MergingKinds.{merged_self, merged_unusable, unusable_merged, slots_self, length-slots, at_none, at_differ}
 
 -- ---- lists
@@ -91,8 +91,8 @@ places_merged [] xs ys = refl
 places_merged (place ∷ places) xs ys = let head = get_merged xs ys place in let tail = places_merged places xs ys in cc
 
 given_merged : (row : KindRow) (xs ys : List SlotKind) → slots_given row (merged_slots xs ys) ≡ merged_slots (slots_given row xs) (slots_given row ys)
-given_merged (Works takes gives) xs ys = sym (slots_self (on_stack gives))
-given_merged (Loads value local) xs ys = sym (slots_self (on_stack (value ∷ [])))
+given_merged (Works takes gives) xs ys = sym (slots_self (reverse gives))
+given_merged (Loads value local) xs ys = sym (slots_self (reverse (slots_of value)))
 given_merged (Stores value local) xs ys = refl
 given_merged (Increments local) xs ys = refl
 given_merged (Moves groups places) xs ys = places_merged places xs ys

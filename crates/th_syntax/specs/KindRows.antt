@@ -1,7 +1,7 @@
 -- The kinds that each instruction takes and gives, one row an instruction (Java specification 6.5), and
 -- what it makes of the kinds before it. docs/KINDS.md shows the rows as a table.
-use Rattle.std.specs.Prelude.{ℕ, suc, ◌+◌, ◌-◌, ◌||◌, not, nat_le, nat_lt, Bool, false, List, [], ◌∷◌, ◌++◌, length, map, take, drop, reverse, sum, flat_map, option_to_list, slice_get, slice_set, slice_index_or, if◌then◌else◌}
-use Rattle.std.specs.Option.{option_map, option_map_or}
+use Rattle.std.specs.Prelude.{ℕ, suc, ◌+◌, ◌-◌, ◌||◌, not, nat_le, nat_lt, Bool, false, List, [], ◌∷◌, ◌++◌, length, map, take, drop, reverse, sum, flat_map, Option, slice_get, slice_set, slice_index_or, if◌then◌else◌}
+use Rattle.std.specs.Option.{option_map_or}
 use Rattle.th_base.specs.declared.operation.Elem.{Elem}
 use Rattle.th_base.specs.declared.operation.Elem.TheVariants as elem
 use Rattle.th_base.specs.declared.operation.ArithOp.{ArithOp}
@@ -11,13 +11,13 @@ use Rattle.th_syntax.specs.declared.instr.StackOp.{StackOp}
 use Rattle.th_syntax.specs.declared.instr.StackOp.TheVariants as move
 use Rattle.th_syntax.specs.declared.instr.Instr.{Instr}
 use Rattle.th_syntax.specs.declared.instr.Instr.TheVariants.{Nop, Null, Int, Long, Str, ILoad, LLoad, ALoad, IStore, LStore, AStore, ArrayLoad, LArrayLoad, ArrayStore, LArrayStore, Stack, Arith, LArith, Neg, LNeg, Inc, Narrow, I2L, L2I, LCmp, IfZero, IfInts, IfSame, IfOther, IfNull, IfNotNull, Goto, TableSwitch, LookupSwitch, IReturn, LReturn, AReturn, Return, GetStatic, PutStatic, GetField, PutField, InvokeVirtual, InvokeSpecial, InvokeInterface, InvokeStatic, New, NewArray, ANewArray, ArrayLength, Throw, CheckCast, InstanceOf, MonitorEnter, MonitorExit}
-use Rattle.th_syntax.specs.Descriptors.{FieldType, double_type, long_type, class_type, array_type, field_type_of, method_type_of}
+use Rattle.th_syntax.specs.Descriptors.{FieldType, double_type, long_type, class_type, array_type, MethodType, is_floating, is_floating_method, only_if, field_type_of, method_type_of}
 use Rattle.th_syntax.specs.Kinds.{SlotKind, is_same_kind, are_same_kinds, KindsAt, NoKinds, OfKinds, DepthsDiffer}
 
--- ---- kinds of values. In a row a value has one kind: that of a long stands for both its slots.
+-- ---- the slots of values, in the order of locals: the first half of a long, and then the second
 
--- the kind of a type's values (Java specification 2.11.1). No class file of the profile has a float,
--- which would take the room of an int, or a double, that of a long.
+-- the kind of a type's values (Java specification 2.11.1). A float would take the room of an int, and a
+-- double that of a long.
 abbrev pub kind_of_type : FieldType → SlotKind
 kind_of_type long_type = kind.Long
 kind_of_type double_type = kind.Long
@@ -25,35 +25,44 @@ kind_of_type (class_type name) = kind.Ref
 kind_of_type (array_type element) = kind.Ref
 kind_of_type other = kind.Int
 
--- the value of a field, by its descriptor
-abbrev pub field_kinds : List ℕ → List SlotKind
-field_kinds descriptor = option_to_list (option_map kind_of_type (field_type_of descriptor))
-
--- the parameters of a method, in order and without the receiver, by its descriptor
-abbrev pub parameter_kinds : List ℕ → List SlotKind
-parameter_kinds descriptor = option_map_or (λ m. map kind_of_type m.params) (method_type_of descriptor) []
-
--- its result, if any
-abbrev pub result_kinds : List ℕ → List SlotKind
-result_kinds descriptor = option_map_or (λ m. option_to_list (option_map kind_of_type m.result_type)) (method_type_of descriptor) []
-
--- the slots of a value in locals, the first one first
+-- the slots of a value
 abbrev pub slots_of : SlotKind → List SlotKind
 slots_of kind.Long = kind.Long ∷ kind.SecondHalf ∷ []
 slots_of other = other ∷ []
 
--- the slots of values that lie in locals in this order
-abbrev pub in_locals : List SlotKind → List SlotKind
-in_locals values = flat_map slots_of values
+abbrev pub int : List SlotKind
+int = kind.Int ∷ []
 
--- the slots of values on an operand stack, the last one on top, the top first
-abbrev pub on_stack : List SlotKind → List SlotKind
-on_stack values = reverse (in_locals values)
+abbrev pub long : List SlotKind
+long = kind.Long ∷ kind.SecondHalf ∷ []
+
+abbrev pub ref : List SlotKind
+ref = kind.Ref ∷ []
+
+abbrev pub slots_of_type : FieldType → List SlotKind
+slots_of_type type = slots_of (kind_of_type type)
+
+-- the slots of a field's value, by its descriptor. What is no descriptor or has float or double, as in no
+-- class file of the profile, has none.
+abbrev pub field_slots : List ℕ → List SlotKind
+field_slots descriptor = option_map_or slots_of_type (only_if (λ type. not (is_floating type)) (field_type_of descriptor)) []
+
+-- a method's parameters and result
+abbrev pub slots_type_of : List ℕ → Option MethodType
+slots_type_of descriptor = only_if (λ m. not (is_floating_method m)) (method_type_of descriptor)
+
+-- the slots of a method's parameters, in order and without the receiver, by its descriptor
+abbrev pub parameter_slots : List ℕ → List SlotKind
+parameter_slots descriptor = option_map_or (λ m. flat_map slots_of_type m.params) (slots_type_of descriptor) []
+
+-- those of its result; none where it is void
+abbrev pub result_slots : List ℕ → List SlotKind
+result_slots descriptor = option_map_or (λ m. option_map_or slots_of_type m.result_type []) (slots_type_of descriptor) []
 
 -- ---- rows
 
 pub data KindRow : Type 0 where
-  -- takes values of these kinds from the stack, of which the last is on top, and then gives these
+  -- takes these slots from the stack, of which the last is on top, and then gives these
   Works : (takes gives : List SlotKind) → KindRow
   -- gives the value of this kind that a local has
   Loads : (value : SlotKind) (local : ℕ) → KindRow
@@ -66,26 +75,26 @@ pub data KindRow : Type 0 where
   Moves : (groups places : List ℕ) → KindRow
 
 -- what an array's elements are as values
-abbrev pub element_kind : Elem → SlotKind
-element_kind elem.Ref = kind.Ref
-element_kind elem.Int = kind.Int
-element_kind elem.Byte = kind.Int
-element_kind elem.Char = kind.Int
-element_kind elem.Short = kind.Int
+abbrev pub element_slots : Elem → List SlotKind
+element_slots elem.Ref = ref
+element_slots elem.Int = int
+element_slots elem.Byte = int
+element_slots elem.Char = int
+element_slots elem.Short = int
 
 -- the second operand of an operation on longs: the distance of a shift is an int
-abbrev pub second_kind : ArithOp → SlotKind
-second_kind Add = kind.Long
-second_kind Sub = kind.Long
-second_kind Mul = kind.Long
-second_kind Div = kind.Long
-second_kind Rem = kind.Long
-second_kind Shl = kind.Int
-second_kind Shr = kind.Int
-second_kind Ushr = kind.Int
-second_kind And = kind.Long
-second_kind Or = kind.Long
-second_kind Xor = kind.Long
+abbrev pub second_operand : ArithOp → List SlotKind
+second_operand Add = long
+second_operand Sub = long
+second_operand Mul = long
+second_operand Div = long
+second_operand Rem = long
+second_operand Shl = int
+second_operand Shr = int
+second_operand Ushr = int
+second_operand And = long
+second_operand Or = long
+second_operand Xor = long
 
 -- pop to swap, by the groups that they take (Java specification 6.5)
 abbrev pub move_row : StackOp → KindRow
@@ -99,18 +108,9 @@ move_row move.Dup2X1 = Moves (2 ∷ 1 ∷ []) (0 ∷ 1 ∷ 2 ∷ 0 ∷ 1 ∷ [])
 move_row move.Dup2X2 = Moves (2 ∷ 2 ∷ []) (0 ∷ 1 ∷ 2 ∷ 3 ∷ 0 ∷ 1 ∷ [])
 move_row move.Swap = Moves (1 ∷ 1 ∷ []) (1 ∷ 0 ∷ [])
 
--- a call, where these values are taken before the parameters
+-- a call, where these slots lie below the parameters
 abbrev pub call_row : List SlotKind → List ℕ → KindRow
-call_row receiver descriptor = Works (receiver ++ parameter_kinds descriptor) (result_kinds descriptor)
-
-abbrev pub int : List SlotKind
-int = kind.Int ∷ []
-
-abbrev pub long : List SlotKind
-long = kind.Long ∷ []
-
-abbrev pub ref : List SlotKind
-ref = kind.Ref ∷ []
+call_row receiver descriptor = Works (receiver ++ parameter_slots descriptor) (result_slots descriptor)
 
 abbrev pub row_of : Instr → KindRow
 row_of Nop = Works [] []
@@ -124,13 +124,13 @@ row_of (ALoad local) = Loads kind.Ref local
 row_of (IStore local) = Stores kind.Int local
 row_of (LStore local) = Stores kind.Long local
 row_of (AStore local) = Stores kind.Ref local
-row_of (ArrayLoad e) = Works (ref ++ int) (element_kind e ∷ [])
+row_of (ArrayLoad e) = Works (ref ++ int) (element_slots e)
 row_of LArrayLoad = Works (ref ++ int) long
-row_of (ArrayStore e) = Works (ref ++ int ++ element_kind e ∷ []) []
+row_of (ArrayStore e) = Works (ref ++ int ++ element_slots e) []
 row_of LArrayStore = Works (ref ++ int ++ long) []
 row_of (Stack op) = move_row op
 row_of (Arith op) = Works (int ++ int) int
-row_of (LArith op) = Works (long ++ second_kind op ∷ []) long
+row_of (LArith op) = Works (long ++ second_operand op) long
 row_of Neg = Works int int
 row_of LNeg = Works long long
 row_of (Inc local by) = Increments local
@@ -151,10 +151,10 @@ row_of IReturn = Works int []
 row_of LReturn = Works long []
 row_of AReturn = Works ref []
 row_of Return = Works [] []
-row_of (GetStatic r) = Works [] (field_kinds r.descriptor)
-row_of (PutStatic r) = Works (field_kinds r.descriptor) []
-row_of (GetField r) = Works ref (field_kinds r.descriptor)
-row_of (PutField r) = Works (ref ++ field_kinds r.descriptor) []
+row_of (GetStatic r) = Works [] (field_slots r.descriptor)
+row_of (PutStatic r) = Works (field_slots r.descriptor) []
+row_of (GetField r) = Works ref (field_slots r.descriptor)
+row_of (PutField r) = Works (ref ++ field_slots r.descriptor) []
 row_of (InvokeVirtual r) = call_row ref r.descriptor
 row_of (InvokeSpecial r) = call_row ref r.descriptor
 row_of (InvokeInterface r) = call_row ref r.descriptor
@@ -173,7 +173,7 @@ row_of MonitorExit = Works ref []
 
 -- how many slots it takes from the stack
 abbrev pub slots_taken : KindRow → ℕ
-slots_taken (Works takes gives) = length (on_stack takes)
+slots_taken (Works takes gives) = length takes
 slots_taken (Loads value local) = 0
 slots_taken (Stores value local) = length (slots_of value)
 slots_taken (Increments local) = 0
@@ -181,8 +181,8 @@ slots_taken (Moves groups places) = sum groups
 
 -- the slots that it puts onto the stack, the top first
 abbrev pub slots_given : KindRow → List SlotKind → List SlotKind
-slots_given (Works takes gives) stack = on_stack gives
-slots_given (Loads value local) stack = on_stack (value ∷ [])
+slots_given (Works takes gives) stack = reverse gives
+slots_given (Loads value local) stack = reverse (slots_of value)
 slots_given (Stores value local) stack = []
 slots_given (Increments local) stack = []
 slots_given (Moves groups places) stack = map (λ place. slice_index_or stack place kind.Unusable) places
@@ -234,9 +234,9 @@ after row (OfKinds locals stack) =
 abbrev pub is_other_local : SlotKind → ℕ → List SlotKind → Bool
 is_other_local value local locals = not (option_map_or (is_same_kind value) (slice_get locals local) false)
 
--- the values on top aren't of these kinds
+-- the slots on top aren't these, of which the last is on top
 abbrev pub are_other_operands : List SlotKind → List SlotKind → Bool
-are_other_operands values stack = not (are_same_kinds (take (length (on_stack values)) stack) (on_stack values))
+are_other_operands slots stack = not (are_same_kinds (take (length slots) stack) (reverse slots))
 
 -- the first of the slots is of this kind
 abbrev pub begins_with : SlotKind → List SlotKind → Bool
@@ -261,7 +261,7 @@ has_torn (size ∷ sizes) stack = is_torn (take size stack) || has_torn sizes (d
 abbrev pub are_wrong : KindRow → List SlotKind → List SlotKind → Bool
 are_wrong (Works takes gives) locals stack = are_other_operands takes stack
 are_wrong (Loads value local) locals stack = is_other_local value local locals
-are_wrong (Stores value local) locals stack = are_other_operands (value ∷ []) stack
+are_wrong (Stores value local) locals stack = are_other_operands (slots_of value) stack
 are_wrong (Increments local) locals stack = is_other_local kind.Int local locals
 are_wrong (Moves groups places) locals stack = has_torn groups stack
 

@@ -10,13 +10,13 @@ use Rattle.th_syntax.specs.declared.instr.Instr.TheVariants.{IReturn, LReturn, A
 use Rattle.th_syntax.specs.Flags.{is_static}
 use Rattle.th_syntax.specs.Flow.{instr_in, successors_of, reached_code}
 use Rattle.th_syntax.specs.Kinds.{SlotKind, are_same_kinds, KindsAt, NoKinds, OfKinds, DepthsDiffer, merged_at}
-use Rattle.th_syntax.specs.KindRows.{parameter_kinds, result_kinds, in_locals, row_of, after, is_misfit, int, long, ref}
+use Rattle.th_syntax.specs.KindRows.{parameter_slots, result_slots, row_of, after, is_misfit, int, long, ref}
 
 -- ---- the entry of a method
 
 -- the locals that the arguments of a method take, the receiver's first (Java specification 2.6.1)
 abbrev pub argument_slots : Member → List SlotKind
-argument_slots m = in_locals ((if is_static m then [] else ref) ++ parameter_kinds m.descriptor)
+argument_slots m = (if is_static m then [] else ref) ++ parameter_slots m.descriptor
 
 -- before the first instruction: the arguments, locals into which nothing is stored yet, and an empty stack
 abbrev pub entry_kinds : Member → Code → KindsAt
@@ -42,17 +42,17 @@ pub record IsLeastTable (m : Member) (code : Code) (t : ℕ → KindsAt) : Type 
 
 -- ---- conflicts
 
--- the values that a return hands over
-abbrev pub returned_kinds : Instr → Option (List SlotKind)
-returned_kinds IReturn = Some int
-returned_kinds LReturn = Some long
-returned_kinds AReturn = Some ref
-returned_kinds Return = Some []
-returned_kinds other = None
+-- the slots that a return hands over
+abbrev pub returned_slots : Instr → Option (List SlotKind)
+returned_slots IReturn = Some int
+returned_slots LReturn = Some long
+returned_slots AReturn = Some ref
+returned_slots Return = Some []
+returned_slots other = None
 
 -- a return hands over other than the method's result
 abbrev pub is_other_return : Member → Instr → Bool
-is_other_return m i = option_map_or (λ values. not (are_same_kinds values (result_kinds m.descriptor))) (returned_kinds i) false
+is_other_return m i = option_map_or (λ slots. not (are_same_kinds slots (result_slots m.descriptor))) (returned_slots i) false
 
 -- the kinds before an instruction are a conflict
 abbrev pub is_conflict : Member → Code → Instr → KindsAt → Bool
