@@ -1,18 +1,18 @@
 -- The least table of kinds: it is one, rounds lead to it, and it has kinds just where paths lead.
-use Rattle.std.proofs.Common.{◌≡◌, ℕ, zero, suc, ◌==◌, ◌||◌, Bool, true, false, cond, List, [], ◌∷◌, length, map, Option, None, Some, Contains, refl, sym, ap, subst, ◌∙◌}
+use Rattle.std.proofs.Common.{◌≡◌, ◌&&◌, ◌||◌, ◌<◌, inl, inr, ℕ, zero, suc, ◌==◌, Bool, true, false, cond, List, [], ◌∷◌, length, map, Option, None, Some, Contains, refl, sym, ap, subst, ◌∙◌}
 use Rattle.std.specs.Prelude.{nat_le}
 use Rattle.std.specs.List.{list_all}
 use Rattle.std.specs.Option.{option_map, option_map_or}
-use Rattle.std.proofs.lemmas.Bool.{eq-eqb, eqb-true, and_parts, or_left, or_right}
+use Rattle.std.proofs.lemmas.Bool.{eq-eqb, eqb-true, and_parts, or_left, or_right, false≢true, cases_order}
 use Rattle.th_base.specs.IdSet.{has}
 use Rattle.th_base.proofs.Membership.{has-from_Contains, Contains-from_has}
 use Rattle.th_syntax.specs.declared.class_file.Member.{Member}
 use Rattle.th_syntax.specs.declared.class_file.Code.{Code}
 use Rattle.th_syntax.specs.declared.instr.Instr.{Instr}
-use Rattle.th_syntax.specs.Flow.{placed_at, instr_in, successors_of, IsReached, start, onward, is_reached}
+use Rattle.th_syntax.specs.Flow.{placed_at, instr_in, successors_of, IsReached, start, onward, is_reached, reached_code}
 use Rattle.th_syntax.specs.Kinds.{SlotKind, is_same_kind, are_same_kinds, KindsAt, NoKinds, OfKinds, DepthsDiffer, merged_at}
 use Rattle.th_syntax.specs.KindRows.{KindRow, row_of, slots_taken, locals_after, stack_after, after}
-use Rattle.th_syntax.specs.KindTable.{entry_kinds, IsHeld, IsClosedTable, IsLeastTable}
+use Rattle.th_syntax.specs.KindTable.{entry_kinds, IsHeld, IsClosedTable, IsLeastTable, is_conflict, is_short_of_locals, conflicts_at, HasKinds, HasFirstConflict, KindsBefore, shown, AreKinds}
 use Rattle.th_syntax.specs.KindRounds.{known_at, with_brought, with_each, with_next, one_round, offsets_of, after_rounds, is_same_at, is_held, brings_nothing_new, is_closed_table}
 use Rattle.th_syntax.proofs.Visiting.{found_from_path, path_from_found}
 use Rattle.th_syntax.proofs.MergingKinds.{same_kind_is, at_none, at_differ, at_comm, at_assoc}
@@ -201,3 +201,53 @@ rounds_least m code n e = record {
   closed = closed_from_test m code (known_at (after_rounds m code n)) e;
   below = λ u closed offset. known_below u (after_rounds m code n) (rounds_below m code u closed n) offset;
 }
+
+-- ---- a method has kinds or a first conflict, and one of these
+
+same_conflict : (m : Member) (code : Code) (t u : ℕ → KindsAt) → IsLeastTable m code t → IsLeastTable m code u → (offset : ℕ) → conflicts_at m code t offset ≡ conflicts_at m code u offset
+same_conflict m code t u left right offset =
+    ap (λ s. (offset == 0 && is_short_of_locals m code) || option_map_or (λ i. is_conflict m code i s) (instr_in code.instrs offset) false) (one_least m code t u left right offset)
+
+pub kinds_or_conflict : (m : Member) (code : Code) (t u : ℕ → KindsAt) (offset : ℕ) → HasKinds m code t → HasFirstConflict m code u offset → ⊥
+kinds_or_conflict m code t u offset kinds conflict =
+    false≢true (sym (kinds.fitting offset) ∙ same_conflict m code t u kinds.least conflict.least offset ∙ conflict.here)
+
+earlier : (m : Member) (code : Code) (t u : ℕ → KindsAt) (first other : ℕ) → HasFirstConflict m code t first → HasFirstConflict m code u other → first < other → ⊥
+earlier m code t u first other left right below =
+    false≢true (sym (right.none_before first below) ∙ same_conflict m code u t right.least left.least first ∙ left.here)
+
+pub one_conflict : (m : Member) (code : Code) (t u : ℕ → KindsAt) (first other : ℕ) → HasFirstConflict m code t first → HasFirstConflict m code u other → first ≡ other
+one_conflict m code t u first other left right =
+    elim (cases_order first other) [
+      | inl same ↦ same
+      | inr apart ↦ elim apart [ inl below ↦ absurd (earlier m code t u first other left right below) | inr above ↦ absurd (earlier m code u t other first right left above) ]
+    ]
+
+-- ---- kinds are listed in one way
+
+same_shown : (ks others : List KindsBefore) → map shown ks ≡ map shown others → ks ≡ others
+same_shown [] [] e = refl
+same_shown [] (k ∷ ks) e = absurd cc
+same_shown (k ∷ ks) [] e = absurd cc
+same_shown (k ∷ ks) (other ∷ others) e =
+    let tails : map shown ks ≡ map shown others = cc in
+    let rest = same_shown ks others tails in
+    let heads : shown k ≡ shown other = cc in
+    let offsets : k.offset ≡ other.offset = ap (λ (x : ℕ × KindsAt). x.0) heads in
+    let states : OfKinds k.locals k.stack ≡ OfKinds other.locals other.stack = ap (λ (x : ℕ × KindsAt). x.1) heads in
+    let locals : k.locals ≡ other.locals = cc in
+    let stack : k.stack ≡ other.stack = cc in
+    let one : k ≡ other = ap (λ o. let r : KindsBefore = record { offset = o; locals = k.locals; stack = k.stack } in r) offsets
+    ∙ ap (λ ls. let r : KindsBefore = record { offset = other.offset; locals = ls; stack = k.stack } in r) locals
+    ∙ ap (λ st. let r : KindsBefore = record { offset = other.offset; locals = other.locals; stack = st } in r) stack in
+    ap (λ (h : KindsBefore). h ∷ ks) one ∙ ap (λ (t : List KindsBefore). other ∷ t) rest
+
+same_tables : (t u : ℕ → KindsAt) → ((offset : ℕ) → t offset ≡ u offset) → (instrs : List (ℕ × Instr)) → map (λ (i : ℕ × Instr). let x : ℕ × KindsAt = (i.0, t i.0) in x) instrs ≡ map (λ (i : ℕ × Instr). let x : ℕ × KindsAt = (i.0, u i.0) in x) instrs
+same_tables t u same [] = refl
+same_tables t u same (i ∷ instrs) =
+    let head : (let x : ℕ × KindsAt = (i.0, t i.0) in x) ≡ (i.0, u i.0) = ap (λ s. let x : ℕ × KindsAt = (i.0, s) in x) (same i.0) in
+    let tail = same_tables t u same instrs in cc
+
+pub one_listing : (m : Member) (code : Code) (ks others : List KindsBefore) → AreKinds m code ks → AreKinds m code others → ks ≡ others
+one_listing m code ks others left right =
+    same_shown ks others (left.listed ∙ same_tables left.table right.table (one_least m code left.table right.table left.has.least right.has.least) (reached_code code.instrs) ∙ sym right.listed)

@@ -1,6 +1,6 @@
 -- The kinds of the slots before each instruction of a method: the least table that has the kinds of the
 -- method's entry and is closed under the flow of control. And where such a table has a conflict.
-use Rattle.std.specs.Prelude.{◌≡◌, ℕ, ◌-◌, ◌<◌, ◌==◌, ◌&&◌, ◌||◌, not, nat_lt, Bool, true, false, List, [], ◌∷◌, ◌++◌, length, map, replicate, Option, None, Some, Contains, if◌then◌else◌}
+use Rattle.std.specs.Prelude.{◌≡◌, ℕ, ◌-◌, ◌<◌, ◌==◌, ◌&&◌, ◌||◌, not, nat_lt, Bool, true, false, List, [], ◌++◌, length, map, replicate, Option, None, Some, Contains, if◌then◌else◌}
 use Rattle.std.specs.Option.{option_map_or}
 use Rattle.th_syntax.specs.declared.kind.SlotKind.TheVariants as kind
 use Rattle.th_syntax.specs.declared.class_file.Member.{Member}
@@ -88,12 +88,12 @@ pub record KindsBefore : Type 0 where
   pub locals : List SlotKind
   pub stack : List SlotKind
 
--- the table of a list
-abbrev pub table_of : List KindsBefore → ℕ → KindsAt
-table_of [] offset = NoKinds
-table_of (k ∷ ks) offset = if k.offset == offset then OfKinds k.locals k.stack else table_of ks offset
+-- as the list has it
+abbrev pub shown : KindsBefore → ℕ × KindsAt
+shown k = (k.offset, OfKinds k.locals k.stack)
 
--- the kinds before each instruction that is reached, in order
+-- the kinds before each instruction that is reached, in order, in a method whose kinds have no conflict
 pub record AreKinds (m : Member) (code : Code) (kinds : List KindsBefore) : Type 0 where
-  pub has : HasKinds m code (table_of kinds)
-  pub offsets : map (λ k. k.offset) kinds ≡ map (λ i. i.0) (reached_code code.instrs)
+  pub table : ℕ → KindsAt
+  pub has : HasKinds m code table
+  pub listed : map shown kinds ≡ map (λ i. (i.0, table i.0)) (reached_code code.instrs)

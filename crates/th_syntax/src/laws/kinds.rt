@@ -6,7 +6,7 @@ ghost use Rattle.th_syntax.specs.declared.class_file.Member.{Member};
 ghost use Rattle.th_syntax.specs.Flow.{IsReached};
 ghost use Rattle.th_syntax.specs.Kinds.{KindsAt, NoKinds, OfKinds, merged_at};
 ghost use Rattle.th_syntax.specs.KindRows.{KindRow, row_of, after};
-ghost use Rattle.th_syntax.specs.KindTable.{IsLeastTable};
+ghost use Rattle.th_syntax.specs.KindTable.{IsLeastTable, HasKinds, HasFirstConflict, KindsBefore, AreKinds};
 ghost use Rattle.th_syntax.specs.KindRounds.{known_at, after_rounds, is_closed_table};
 ghost use Rattle.th_syntax.specs.WorkedKinds.{fitting_constants, fitting_arrays, fitting_moves, fitting_arithmetic, fitting_branches, fitting_members, behind_fitting, expected_behind, misfits, unfitting_misfits, unfitting, storing, straight_methods, returning_methods, merging_methods, are_settled, found_conflicts, long_method, long_table};
 
@@ -27,6 +27,14 @@ pub fn one_least_table()
 /// A table that rounds from the entry lead to is the least one where it is closed.
 pub fn rounds_lead_to_the_least()
     ensures { (m : Member) (code : Code) (rounds : ℕ) → is_closed_table m code (known_at (after_rounds m code rounds)) ≡ true → IsLeastTable m code (known_at (after_rounds m code rounds)) }
+{}
+
+/// A method has kinds or a first conflict, and not both; its first conflict is one, and its kinds are
+/// listed in one way.
+pub fn one_outcome()
+    ensures apart { (m : Member) (code : Code) (t u : ℕ → KindsAt) (offset : ℕ) → HasKinds m code t → HasFirstConflict m code u offset → ⊥ }
+    ensures conflict { (m : Member) (code : Code) (t u : ℕ → KindsAt) (offset other : ℕ) → HasFirstConflict m code t offset → HasFirstConflict m code u other → offset ≡ other }
+    ensures listing { (m : Member) (code : Code) (kinds others : List KindsBefore) → AreKinds m code kinds → AreKinds m code others → kinds ≡ others }
 {}
 
 /// The least table has kinds, or depths that differ, exactly where a path leads.
