@@ -1,9 +1,9 @@
 -- The least table of kinds: it is one, rounds lead to it, and it has kinds just where paths lead.
-use Rattle.std.proofs.Common.{◌≡◌, ◌&&◌, ◌||◌, ◌<◌, inl, inr, ℕ, zero, suc, ◌==◌, Bool, true, false, cond, List, [], ◌∷◌, length, map, Option, None, Some, Contains, refl, sym, ap, subst, ◌∙◌}
+use Rattle.std.proofs.Common.{◌≡◌, ◌&&◌, ◌||◌, ◌<◌, inl, inr, ℕ, zero, suc, ◌==◌, Bool, true, false, not, cond, List, [], ◌∷◌, length, map, Option, None, Some, Contains, refl, sym, ap, subst, ◌∙◌}
 use Rattle.std.specs.Prelude.{nat_le}
 use Rattle.std.specs.List.{list_all}
 use Rattle.std.specs.Option.{option_map, option_map_or}
-use Rattle.std.proofs.lemmas.Bool.{eq-eqb, eqb-true, and_parts, or_left, or_right, false≢true, cases_order}
+use Rattle.std.proofs.lemmas.Bool.{ne_eqb, eqb-false, eq-eqb, eqb-true, and_parts, or_left, or_right, false≢true, cases_order}
 use Rattle.th_base.specs.IdSet.{has}
 use Rattle.th_base.proofs.Membership.{has-from_Contains, Contains-from_has}
 use Rattle.th_syntax.specs.declared.class_file.Member.{Member}
@@ -251,3 +251,32 @@ same_tables t u same (i ∷ instrs) =
 pub one_listing : (m : Member) (code : Code) (ks others : List KindsBefore) → AreKinds m code ks → AreKinds m code others → ks ≡ others
 one_listing m code ks others left right =
     same_shown ks others (left.listed ∙ same_tables left.table right.table (one_least m code left.table right.table left.has.least right.has.least) (reached_code code.instrs) ∙ sym right.listed)
+
+-- ---- conflicts stand at instructions, or at the start
+
+listed_by : (m : Member) (code : Code) (t : ℕ → KindsAt) (offset : ℕ) (found : Option Instr) (b : Bool) → instr_in code.instrs offset ≡ found → (0 == offset) ≡ b → (offset == 0) ≡ b
+    → ((offset == 0 && is_short_of_locals m code) || option_map_or (λ i. is_conflict m code i (t offset)) found false) ≡ true → (b || has (offsets_of code.instrs) offset) ≡ true
+listed_by m code t offset found true is at at' e = refl
+listed_by m code t offset (Some i) false is at at' e = has_offset code.instrs offset i is
+listed_by m code t offset None false is at at' e =
+    absurd (false≢true (sym (ap (λ b. (b && is_short_of_locals m code) || false) at') ∙ e))
+
+same_test : (offset : ℕ) (b : Bool) → (0 == offset) ≡ b → (offset == 0) ≡ b
+same_test offset true is = eq-eqb offset 0 (sym (eqb-true 0 offset is))
+same_test offset false is = ne_eqb offset 0 (λ e. eqb-false 0 offset is (sym e))
+
+pub conflict_listed : (m : Member) (code : Code) (t : ℕ → KindsAt) (offset : ℕ) → conflicts_at m code t offset ≡ true → has (0 ∷ offsets_of code.instrs) offset ≡ true
+conflict_listed m code t offset e = listed_by m code t offset (instr_in code.instrs offset) (0 == offset) refl refl (same_test offset (0 == offset) refl) e
+
+none_by : (m : Member) (code : Code) (t : ℕ → KindsAt) (offset : ℕ) (b : Bool) → conflicts_at m code t offset ≡ b → list_all (λ o. not (conflicts_at m code t o)) (0 ∷ offsets_of code.instrs) ≡ true → b ≡ false
+none_by m code t offset false is all = refl
+none_by m code t offset true is all =
+    absurd (let no = all_has (λ o. not (conflicts_at m code t o)) (0 ∷ offsets_of code.instrs) offset all (conflict_listed m code t offset is) in
+    let yes : not (conflicts_at m code t offset) ≡ false = ap not is in false≢true (sym yes ∙ no))
+
+pub kinds_in_rounds : (m : Member) (code : Code) (n : ℕ) → is_closed_table m code (known_at (after_rounds m code n)) ≡ true
+    → list_all (λ o. not (conflicts_at m code (known_at (after_rounds m code n)) o)) (0 ∷ offsets_of code.instrs) ≡ true → HasKinds m code (known_at (after_rounds m code n))
+kinds_in_rounds m code n closed all = record {
+  least = rounds_least m code n closed;
+  fitting = λ offset. none_by m code (known_at (after_rounds m code n)) offset (conflicts_at m code (known_at (after_rounds m code n)) offset) refl all;
+}

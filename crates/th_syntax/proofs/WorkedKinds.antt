@@ -1,10 +1,14 @@
 -- Kinds of instructions and methods that are worked out in full, computed.
-use Rattle.std.proofs.Common.{◌≡◌, true, false, [], ◌∷◌, map, refl}
+use Rattle.std.proofs.Common.{◌≡◌, ◌<◌, ℕ, zero, suc, true, false, not, [], ◌∷◌, map, refl, arith}
 use Rattle.th_syntax.specs.Descriptors.{field_type_of, method_type_of, method_at, types_at, type_at, element_at, name_before, base_type, result_at}
 use Rattle.th_syntax.specs.Kinds.{OfKinds}
 use Rattle.th_syntax.specs.KindRows.{row_of, after}
-use Rattle.th_syntax.specs.KindRounds.{after_rounds}
-use Rattle.th_syntax.specs.WorkedKinds.{fitting_constants, fitting_arrays, fitting_moves, fitting_arithmetic, fitting_branches, fitting_members, behind_fitting, expected_behind, misfits, unfitting_misfits, unfitting, storing, straight_methods, returning_methods, merging_methods, are_settled, found_conflicts, long_method, long_table}
+use Rattle.std.specs.List.{list_all}
+use Rattle.th_syntax.specs.Flow.{reached_code}
+use Rattle.th_syntax.specs.KindTable.{conflicts_at, HasFirstConflict, AreKinds, shown}
+use Rattle.th_syntax.specs.KindRounds.{known_at, after_rounds, offsets_of, is_closed_table}
+use Rattle.th_syntax.proofs.LeastKinds.{kinds_in_rounds, rounds_least}
+use Rattle.th_syntax.specs.WorkedKinds.{fitting_constants, fitting_arrays, fitting_moves, fitting_arithmetic, fitting_branches, fitting_members, behind_fitting, expected_behind, misfits, unfitting_misfits, unfitting, storing, straight_methods, returning_methods, merging_methods, are_settled, found_conflicts, long_method, long_table, half_popped, constructor, constructor_kinds}
 
 pub fit_constants : behind_fitting fitting_constants ≡ expected_behind fitting_constants
 unfolding field_type_of method_type_of method_at types_at type_at element_at name_before base_type result_at
@@ -105,3 +109,44 @@ longs_settled = refl
 pub longs_conflicts : found_conflicts (long_method ∷ []) ≡ [] ∷ []
 unfolding field_type_of method_type_of method_at types_at type_at element_at name_before base_type result_at
 longs_conflicts = refl
+
+-- ---- whole answers
+
+constructor_closed : is_closed_table constructor.member constructor.code (known_at (after_rounds constructor.member constructor.code 1)) ≡ true
+unfolding field_type_of method_type_of method_at types_at type_at element_at name_before base_type result_at
+constructor_closed = refl
+
+constructor_fits : list_all (λ o. not (conflicts_at constructor.member constructor.code (known_at (after_rounds constructor.member constructor.code 1)) o)) (0 ∷ offsets_of constructor.code.instrs) ≡ true
+unfolding field_type_of method_type_of method_at types_at type_at element_at name_before base_type result_at
+constructor_fits = refl
+
+constructor_listed : map shown constructor_kinds ≡ map (λ i. (i.0, known_at (after_rounds constructor.member constructor.code 1) i.0)) (reached_code constructor.code.instrs)
+unfolding field_type_of method_type_of method_at types_at type_at element_at name_before base_type result_at
+constructor_listed = refl
+
+pub constructor_answer : AreKinds constructor.member constructor.code constructor_kinds
+constructor_answer = record {
+  table = known_at (after_rounds constructor.member constructor.code 1);
+  has = kinds_in_rounds constructor.member constructor.code 1 constructor_closed constructor_fits;
+  listed = constructor_listed;
+}
+
+half_closed : is_closed_table half_popped.member half_popped.code (known_at (after_rounds half_popped.member half_popped.code 1)) ≡ true
+unfolding field_type_of method_type_of method_at types_at type_at element_at name_before base_type result_at
+half_closed = refl
+
+half_here : conflicts_at half_popped.member half_popped.code (known_at (after_rounds half_popped.member half_popped.code 1)) 1 ≡ true
+unfolding field_type_of method_type_of method_at types_at type_at element_at name_before base_type result_at
+half_here = refl
+
+half_before : (before : ℕ) → before < 1 → conflicts_at half_popped.member half_popped.code (known_at (after_rounds half_popped.member half_popped.code 1)) before ≡ false
+unfolding field_type_of method_type_of method_at types_at type_at element_at name_before base_type result_at
+half_before zero below = refl
+half_before (suc before) below = absurd (omega arith)
+
+pub half_answer : HasFirstConflict half_popped.member half_popped.code (known_at (after_rounds half_popped.member half_popped.code 1)) 1
+half_answer = record {
+  least = rounds_least half_popped.member half_popped.code 1 half_closed;
+  here = half_here;
+  none_before = half_before;
+}

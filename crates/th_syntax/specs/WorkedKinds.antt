@@ -15,6 +15,7 @@ use Rattle.th_syntax.specs.declared.instr.Instr.{Instr}
 use Rattle.th_syntax.specs.declared.instr.Instr.TheVariants.{Nop, Null, Int, Long, Str, ILoad, LLoad, ALoad, IStore, LStore, AStore, ArrayLoad, LArrayLoad, ArrayStore, LArrayStore, Stack, Arith, LArith, Neg, LNeg, Inc, Narrow, I2L, L2I, LCmp, IfZero, IfInts, IfSame, IfOther, IfNull, IfNotNull, Goto, TableSwitch, LookupSwitch, IReturn, LReturn, AReturn, Return, GetStatic, PutStatic, GetField, PutField, InvokeVirtual, InvokeSpecial, InvokeInterface, InvokeStatic, New, NewArray, ANewArray, ArrayLength, Throw, CheckCast, InstanceOf, MonitorEnter, MonitorExit}
 use Rattle.th_syntax.specs.Kinds.{SlotKind, KindsAt, OfKinds}
 use Rattle.th_syntax.specs.KindRows.{row_of, after, is_misfit}
+use Rattle.th_syntax.specs.KindTable.{KindsBefore}
 use Rattle.th_syntax.specs.KindRounds.{known_at, after_rounds, is_closed_table, conflict_offsets}
 
 -- ---- kinds by a letter: an int, a reference, a long, its second half, an unusable slot
@@ -259,3 +260,19 @@ long_table =
     (0, OfKinds (l ∷ h ∷ i ∷ u ∷ []) []) ∷ (1, OfKinds (l ∷ h ∷ i ∷ u ∷ []) (i ∷ [])) ∷ (4, OfKinds (l ∷ h ∷ i ∷ u ∷ []) [])
     ∷ (5, OfKinds (l ∷ h ∷ i ∷ u ∷ []) (h ∷ l ∷ [])) ∷ (6, OfKinds (l ∷ h ∷ l ∷ h ∷ []) []) ∷ (7, OfKinds (l ∷ h ∷ u ∷ u ∷ []) [])
     ∷ (8, OfKinds (l ∷ h ∷ u ∷ u ∷ []) (h ∷ l ∷ [])) ∷ (9, OfKinds (u ∷ l ∷ h ∷ u ∷ []) []) ∷ []
+
+-- ---- whole answers
+
+abbrev pub half_popped : WorkedMethod
+half_popped = worked 1 (codes "(LA;)V") 2 2 ((0, Long (pos 0)) ∷ (1, Stack move.Pop) ∷ (2, Return) ∷ []) 1 (1 ∷ [])
+
+abbrev pub constructor : WorkedMethod
+constructor = constructing 1 Return []
+
+abbrev pub constructor_kinds : List KindsBefore
+constructor_kinds =
+    record { offset = 0; locals = r ∷ []; stack = [] } ∷ record { offset = 1; locals = r ∷ []; stack = r ∷ [] }
+    ∷ record { offset = 4; locals = r ∷ []; stack = [] } ∷ []
+
+abbrev pub table_in_rounds : WorkedMethod → ℕ → KindsAt
+table_in_rounds w offset = known_at (after_rounds w.member w.code w.rounds) offset

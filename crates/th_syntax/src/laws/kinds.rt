@@ -8,7 +8,7 @@ ghost use Rattle.th_syntax.specs.Kinds.{KindsAt, NoKinds, OfKinds, merged_at};
 ghost use Rattle.th_syntax.specs.KindRows.{KindRow, row_of, after};
 ghost use Rattle.th_syntax.specs.KindTable.{IsLeastTable, HasKinds, HasFirstConflict, KindsBefore, AreKinds};
 ghost use Rattle.th_syntax.specs.KindRounds.{known_at, after_rounds, is_closed_table};
-ghost use Rattle.th_syntax.specs.WorkedKinds.{fitting_constants, fitting_arrays, fitting_moves, fitting_arithmetic, fitting_branches, fitting_members, behind_fitting, expected_behind, misfits, unfitting_misfits, unfitting, storing, straight_methods, returning_methods, merging_methods, are_settled, found_conflicts, long_method, long_table};
+ghost use Rattle.th_syntax.specs.WorkedKinds.{fitting_constants, fitting_arrays, fitting_moves, fitting_arithmetic, fitting_branches, fitting_members, behind_fitting, expected_behind, misfits, unfitting_misfits, unfitting, storing, straight_methods, returning_methods, merging_methods, are_settled, found_conflicts, long_method, long_table, half_popped, constructor, constructor_kinds, table_in_rounds};
 
 /// Merging is a join: the same twice changes nothing, and neither do order and grouping. What an
 /// instruction makes of merged kinds is what it makes of each, merged.
@@ -85,4 +85,10 @@ pub fn longs_are_merged()
     ensures table { after_rounds long_method.member long_method.code long_method.rounds ≡ long_table }
     ensures settled { are_settled (long_method ∷ []) ≡ true ∷ [] }
     ensures conflicts { found_conflicts (long_method ∷ []) ≡ [] ∷ [] }
+{}
+
+/// The kinds of a constructor as a list, and the first conflict of a method that pops half of a long.
+pub fn answers_are_whole()
+    ensures kinds { AreKinds constructor.member constructor.code constructor_kinds }
+    ensures conflict { HasFirstConflict half_popped.member half_popped.code (table_in_rounds half_popped) 1 }
 {}
