@@ -17,8 +17,12 @@ mod WorkedFiles
 pub mod Allowing
 pub mod Changing
 pub mod Acting
-mod WorkedRuns
-pub mod Keeping
-pub mod Initialising
-pub mod Writing
 mod Kept
+mod WorkedKinds
+mod WorkedRuns
+pub mod Initialising
+pub mod Keeping
+pub mod KindsBehind
+pub mod LeastKinds
+pub mod MergingKinds
+pub mod Writing

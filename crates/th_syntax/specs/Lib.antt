@@ -45,3 +45,8 @@ pub mod Reader
 pub mod WorkedCode
 pub mod WorkedFiles
 pub mod WorkedNames
+pub mod Kinds
+pub mod KindRows
+pub mod KindTable
+pub mod KindRounds
+pub mod WorkedKinds

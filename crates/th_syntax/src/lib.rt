@@ -19,6 +19,7 @@ mod class_file;
 mod event;
 mod flags;
 mod instr;
+mod kind;
 pub mod laws;
 mod layout;
 pub mod limit;
@@ -32,6 +33,7 @@ pub use class_file::{ClassFile, Code, Constant, Member};
 pub use event::Event;
 pub use flags::{ACC_ABSTRACT, ACC_INTERFACE, ACC_NATIVE, ACC_STATIC, has_flag};
 pub use instr::{Instr, MemberRef, OUTSIDE, Primitive, StackOp};
+pub use kind::SlotKind;
 pub use layout::{FieldLayout, FileLayout, Group, MethodLayout, PoolEntry};
 pub use machine::{
     Frame, InitStage, LaunchStage, Launched, MOST_VALUES_HELD, Mark, Object, Slot, State, Value,
