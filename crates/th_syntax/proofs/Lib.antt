@@ -17,3 +17,7 @@ mod WorkedFiles
 pub mod Allowing
 pub mod Changing
 pub mod Acting
+mod Ranked
+mod Linked
+mod Standing
+mod Numbering

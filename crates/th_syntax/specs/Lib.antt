@@ -42,3 +42,6 @@ pub mod Reader
 pub mod WorkedCode
 pub mod WorkedFiles
 pub mod WorkedNames
+pub mod LinkChecks
+pub mod Linking
+pub mod WorkedLinking

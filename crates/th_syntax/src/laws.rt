@@ -27,6 +27,7 @@ ghost use Rattle.th_syntax.specs.Worked.{plain_program, storing_program, clearin
 
 pub mod class_files;
 pub mod flow;
+pub mod linking;
 pub mod worked_files;
 
 /// A field of the program holds 0, null or its ConstantValue, unless a `putstatic` of the program
