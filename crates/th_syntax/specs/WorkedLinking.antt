@@ -68,7 +68,7 @@ user_class = class_with 33 (codes "B") (Some (codes "A")) (codes "I" ∷ []) [] 
     ∷ (29, InvokeStatic (call_of (codes "B") (codes "q")))
     ∷ (32, New (codes "A"))
     ∷ (35, ANewArray (codes "[LA;"))
-    ∷ (38, ANewArray (codes "[[I"))
+    ∷ (38, ANewArray (codes "[[Z"))
     ∷ (41, NewArray primitive.Int)
     ∷ (43, CheckCast (codes "B"))
     ∷ (46, InstanceOf (codes "J"))
@@ -223,7 +223,7 @@ refused_uses =
     ∷ (InvokeStatic (call_of (codes "I") (codes "n")), fault_of cause.MEMBER (codes "I.n()V") ∷ [])
     -- methods of arrays
     ∷ (InvokeVirtual (call_of (codes "[LA;") (codes "m")), fault_of cause.MISSING_MEMBER (codes "[LA;.m()V") ∷ [])
-    ∷ (InvokeVirtual (call_of (codes "[I") (codes "m")), fault_of cause.MISSING_MEMBER (codes "[I.m()V") ∷ [])
+    ∷ (InvokeVirtual (call_of (codes "[Z") (codes "m")), fault_of cause.MISSING_MEMBER (codes "[Z.m()V") ∷ [])
     ∷ (
       InvokeVirtual (call_of (codes "[[LGone;") (codes "m")),
       fault_of cause.MISSING_CLASS (codes "Gone") ∷ fault_of cause.MISSING_MEMBER (codes "[[LGone;.m()V") ∷ [],
