@@ -18,6 +18,10 @@ pub mod Allowing
 pub mod Changing
 pub mod Acting
 mod Kept
+mod Linked
+mod Numbering
+mod Ranked
+mod Standing
 mod WorkedKinds
 mod WorkedRuns
 pub mod Initialising

@@ -137,7 +137,7 @@ all_visited next (suc looks) left (offset ∷ ahead) fits =
 
 -- ---- both
 
-placed_of : (instrs : List (ℕ × Instr)) (offset : ℕ) (i : Instr) → instr_in instrs offset ≡ Some i → placed_at instrs offset ≡ Some (offset, i)
+pub placed_of : (instrs : List (ℕ × Instr)) (offset : ℕ) (i : Instr) → instr_in instrs offset ≡ Some i → placed_at instrs offset ≡ Some (offset, i)
 placed_of instrs offset i e =
     let j = map_some (λ (j : ℕ × Instr). j.1) (placed_at instrs offset) i e in
     let here : j.0.0 ≡ offset = found_here offset instrs j.0 j.1 in

@@ -45,8 +45,11 @@ pub mod Reader
 pub mod WorkedCode
 pub mod WorkedFiles
 pub mod WorkedNames
-pub mod Kinds
+pub mod KindRounds
 pub mod KindRows
 pub mod KindTable
-pub mod KindRounds
+pub mod Kinds
+pub mod LinkChecks
+pub mod Linking
 pub mod WorkedKinds
+pub mod WorkedLinking

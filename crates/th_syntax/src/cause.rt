@@ -1,4 +1,4 @@
-// The numbers of what can be wrong with the bytes of a class file.
+// The numbers of what can be wrong with the bytes of a class file, and with class files together.
 
 /// The bytes don't begin with the magic number.
 pub const NOT_CLASS: u8 = 1;
@@ -35,3 +35,26 @@ pub const CODE_SHAPE: u8 = 11;
 
 /// A method of an interface, other than `<clinit>`, has code.
 pub const INTERFACE_CODE: u8 = 19;
+
+// The numbers of what can be wrong where class files are linked with each other.
+
+/// Two classes have one name.
+pub const DUPLICATE: u8 = 13;
+
+/// A class has the name of a built-in one.
+pub const BUILT_IN: u8 = 14;
+
+/// A class that is named isn't there.
+pub const MISSING_CLASS: u8 = 15;
+
+/// A field or a method that is named isn't found.
+pub const MISSING_MEMBER: u8 = 16;
+
+/// A class has no superclass, a supertype of the wrong kind, or itself above it.
+pub const SUPER: u8 = 17;
+
+/// A member stands twice, or is not what it must be.
+pub const MEMBER: u8 = 18;
+
+/// A quantity is past its limit.
+pub const LIMIT: u8 = 20;

@@ -29,6 +29,7 @@ ghost use Rattle.th_syntax.specs.Worked.{plain_program, storing_program, clearin
 pub mod class_files;
 pub mod flow;
 pub mod kinds;
+pub mod linking;
 pub mod worked_files;
 pub mod worked_runs;
 

@@ -1,4 +1,4 @@
-// The limits of a class file.
+// The limits of a class file, and of a program.
 
 /// The least major version that is read.
 pub const OLDEST_MAJOR: u16 = 45;
@@ -14,3 +14,6 @@ pub const MOST_DIMENSIONS: usize = 255;
 
 /// How many slots the parameters of a method may take (Java specification 4.3.3).
 pub const MOST_PARAMETER_SLOTS: usize = 255;
+
+/// How many methods a program may have, those of the built-in classes included (this project's own).
+pub const MOST_METHODS: usize = 65_535;
