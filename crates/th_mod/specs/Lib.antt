@@ -1,0 +1,4 @@
+pub mod Effects
+pub mod Systems
+pub mod Told
+pub mod Transitive
