@@ -21,3 +21,4 @@ mod Ranked
 mod Linked
 mod Standing
 mod Numbering
+mod NamesApart
