@@ -20,6 +20,7 @@ pub mod Acting
 mod Kept
 mod Linked
 mod Numbering
+mod NamesApart
 mod Ranked
 mod Standing
 mod WorkedKinds

@@ -32,7 +32,7 @@ below_by : (n k : ℕ) (p : ℕ → Bool) (b : Bool) → (k == n) ≡ b → p n 
 below_by n k p true is here rest h = ap p (eqb-true k n is) ∙ here
 below_by n k p false is here rest h = let other : k ≡ n → ⊥ = eqb-false k n is in rest (omega arith)
 
-at_below : (n k : ℕ) (p : ℕ → Bool) → all_below n p ≡ true → k < n → p k ≡ true
+pub at_below : (n k : ℕ) (p : ℕ → Bool) → all_below n p ≡ true → k < n → p k ≡ true
 at_below zero k p e h = absurd (omega arith)
 at_below (suc n) k p e h = let parts = both (p n) (all_below n p) e in below_by n k p (k == n) refl parts.0 (at_below n k p parts.1) h
 

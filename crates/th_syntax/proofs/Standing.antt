@@ -24,11 +24,11 @@ use Rattle.th_syntax.proofs.Visiting.{found_from_path, placed_of}
 
 -- ---- lists that are empty
 
-nil_left : {A : Type 0} (xs ys : List A) → xs ++ ys ≡ [] → xs ≡ []
+pub nil_left : {A : Type 0} (xs ys : List A) → xs ++ ys ≡ [] → xs ≡ []
 nil_left [] ys e = refl
 nil_left (x ∷ xs) ys e = absurd cc
 
-nil_right : {A : Type 0} (xs ys : List A) → xs ++ ys ≡ [] → ys ≡ []
+pub nil_right : {A : Type 0} (xs ys : List A) → xs ++ ys ≡ [] → ys ≡ []
 nil_right [] ys e = e
 nil_right (x ∷ xs) ys e = absurd cc
 
@@ -36,7 +36,7 @@ map_nil : {A B : Type 0} (f : A → B) (xs : List A) → map f xs ≡ [] → xs 
 map_nil f [] e = refl
 map_nil f (x ∷ xs) e = absurd cc
 
-unless_nil : {A : Type 0} (b : Bool) (x : A) → unless b x ≡ [] → b ≡ true
+pub unless_nil : {A : Type 0} (b : Bool) (x : A) → unless b x ≡ [] → b ≡ true
 unless_nil true x e = refl
 unless_nil false x e = absurd cc
 

@@ -1,6 +1,6 @@
 // What linking means: class files are linked or have one first refusal, and what linked code names stands;
 // and lists of class files that are worked out in full.
-ghost use Rattle.std.specs.Prelude.{◌≡◌, ◌++◌, ◌∷◌, ℕ, List, [], map, length, take, codes, true, false};
+ghost use Rattle.std.specs.Prelude.{◌≡◌, ◌++◌, ◌∷◌, ℕ, List, [], map, length, take, slice_get, codes, Some, true, false};
 ghost use Rattle.std.specs.List.{flat_map, range_with_len};
 ghost use Rattle.th_base.specs.Hierarchy.{IsAcyclic};
 ghost use Rattle.th_base.specs.Subtype.{AreAboveAll};
@@ -11,7 +11,7 @@ ghost use Rattle.th_syntax.specs.declared.refusal.Refusal.{Refusal};
 ghost use Rattle.th_syntax.specs.Facts.{IsReachedInstr};
 ghost use Rattle.th_syntax.specs.LinkChecks.{name_refusals, supertype_refusals, member_refusals, use_refusals, use_of, use_faults, are_few, refusal_of};
 ghost use Rattle.th_syntax.specs.Linking.{IsLinked, IsFirstRefusal, Stands};
-ghost use Rattle.th_syntax.specs.Program.{fields_of, methods_of, hierarchy_of};
+ghost use Rattle.th_syntax.specs.Program.{all_classes, fields_of, methods_of, hierarchy_of, number_named};
 ghost use Rattle.th_syntax.specs.WorkedLinking.{linked_files, refused_names, refused_supertypes, refused_members, refused_uses, using_files, using_refusals, faulty_files, crowded_files};
 
 /// Class files have one first refusal at most.
@@ -43,6 +43,12 @@ pub fn array_supertypes_are_above_all()
 {
     th_base::laws::programs::built_in_classes_stand_above_arrays();
 }
+
+/// A class of linked class files is the one of its name.
+pub fn names_are_apart()
+    ensures { (files : List ClassFile) (n : ℕ) (class : ClassFile) → IsLinked files → slice_get (all_classes files) n ≡ Some class
+        → number_named files class.name ≡ Some n }
+{}
 
 /// Fields and methods are numbered in the order of classes, and then as their class declares them.
 pub fn members_are_numbered_in_order()

@@ -1,0 +1,2 @@
+pub mod FirstPlaces
+mod Visits
