@@ -1,0 +1,99 @@
+-- Branches, switches and returns, opcode by opcode.
+use Rattle.std.proofs.Common.{◌≡◌, ◌≢◌, ℕ, zero, suc, ◌+◌, ◌-◌, ◌<◌, subst, ◌≤◌, ◌&&◌, ◌||◌, not, Bool, true, false, List, [], ◌∷◌, Result, Ok, Err, refl, sym, ap, ◌∙◌, arith}
+use Rattle.std.specs.Prelude.{Option, Some, None, ◌==◌, nat_le}
+use Rattle.std.specs.Int.{w8, w16, w32, cast_signed}
+use Rattle.std.specs.List.{list_any}
+use Rattle.th_syntax.specs.declared.instr.Instr.{Instr}
+use Rattle.th_syntax.specs.declared.instr.Instr.TheVariants.{IReturn, LReturn, AReturn, Return, IfZero, IfInts, IfSame, IfOther, Goto}
+use Rattle.th_base.specs.declared.operation.Relation.TheVariants.{Eq, Ne, Lt, Ge, Gt, Le}
+use Rattle.th_syntax.specs.Forms.{Form, whole, ◌>>=◌, Placed, Found}
+use Rattle.th_syntax.specs.ClassBytes.{Pool, u1, u2, u4}
+use Rattle.th_syntax.specs.CodeBytes.{Spelled, plain, load, load_wide, rows, among, table_switch, lookup_switch, target, jump}
+use Rattle.th_code.specs.Judged.{operand, judged, said, operands_of}
+use Rattle.th_code.specs.Opcodes.{is_within, small_constants, small_locals, array_access_codes, stack_move_codes, arithmetic_codes, conversion_codes}
+use Rattle.th_code.proofs.Operands.{judged_after, judged_stops, judged_plain}
+use Rattle.th_code.proofs.Opcodes.{not_it}
+use Rattle.th_code.proofs.Rows.{covers, all_in, sieved, refused_opcode, bare_read}
+use Rattle.th_code.proofs.Loaded.{load_ok, load_err, wide_ok, wide_err}
+
+pub branch_read : (pool : Pool) (pc at : ℕ) (bytes : List ℕ) (code p x b : ℕ) (u : List ℕ) (t : ℕ) (i : Instr) → operand u2 at bytes ≡ Ok (record { at = p; value = x }, b, u) → t ≡ target pc (cast_signed w16 x)
+    → ((pool : Pool) (pc at : ℕ) (bytes : List ℕ) (x : Placed ℕ) (b : ℕ) (u : List ℕ) → operand u2 at bytes ≡ Ok (x, b, u) → t ≡ target pc (cast_signed w16 x.value) → judged (operands_of pool code pc) at bytes ≡ Ok (i, b, u)) → judged (operands_of pool code pc) at bytes ≡ Ok (i, b, u)
+branch_read pool pc at bytes code p x b u t i e is jumps = jumps pool pc at bytes (record { at = p; value = x }) b u e is
+
+row_170 : (pool : Pool) (pc : ℕ) → operands_of pool 170 pc ≡ table_switch pc
+unfolding operands_of
+row_170 pool pc = refl
+
+row_171 : (pool : Pool) (pc : ℕ) → operands_of pool 171 pc ≡ lookup_switch pc
+unfolding operands_of
+row_171 pool pc = refl
+
+pub table_row : (pool : Pool) (pc at : ℕ) (bytes : List ℕ) (r : Result (Found Instr) ℕ) → judged (table_switch pc) at bytes ≡ r → judged (operands_of pool 170 pc) at bytes ≡ r
+table_row pool pc at bytes r e = ap (λ (form : Form Spelled). judged form at bytes) (row_170 pool pc) ∙ e
+
+pub lookup_row : (pool : Pool) (pc at : ℕ) (bytes : List ℕ) (r : Result (Found Instr) ℕ) → judged (lookup_switch pc) at bytes ≡ r → judged (operands_of pool 171 pc) at bytes ≡ r
+lookup_row pool pc at bytes r e = ap (λ (form : Form Spelled). judged form at bytes) (row_171 pool pc) ∙ e
+
+pub row_172 : (pool : Pool) (pc at : ℕ) (bytes : List ℕ) → judged (operands_of pool 172 pc) at bytes ≡ Ok (IReturn, at, bytes)
+unfolding operands_of
+row_172 pool pc at bytes = judged_plain IReturn at bytes
+
+pub row_173 : (pool : Pool) (pc at : ℕ) (bytes : List ℕ) → judged (operands_of pool 173 pc) at bytes ≡ Ok (LReturn, at, bytes)
+unfolding operands_of
+row_173 pool pc at bytes = judged_plain LReturn at bytes
+
+pub row_176 : (pool : Pool) (pc at : ℕ) (bytes : List ℕ) → judged (operands_of pool 176 pc) at bytes ≡ Ok (AReturn, at, bytes)
+unfolding operands_of
+row_176 pool pc at bytes = judged_plain AReturn at bytes
+
+pub row_177 : (pool : Pool) (pc at : ℕ) (bytes : List ℕ) → judged (operands_of pool 177 pc) at bytes ≡ Ok (Return, at, bytes)
+unfolding operands_of
+row_177 pool pc at bytes = judged_plain Return at bytes
+
+abbrev listed : ℕ → Bool
+listed k = list_any (λ n. n == k) (170 ∷ 171 ∷ 172 ∷ 173 ∷ 176 ∷ 177 ∷ [])
+
+sieve : (pool : Pool) → all_in 168 10 (λ k. not (covers (rows pool) k) || listed k) ≡ true
+unfolding all_in
+sieve pool = refl
+
+not_listed : (code : ℕ) → code ≢ 170 → code ≢ 171 → code ≢ 172 → code ≢ 173 → code ≢ 176 → code ≢ 177 → listed code ≡ false
+not_listed code n170 n171 n172 n173 n176 n177 = rw (not_it 170 code n170, not_it 171 code n171, not_it 172 code n172, not_it 173 code n173, not_it 176 code n176, not_it 177 code n177) refl
+
+pub others : (code : ℕ) (pool : Pool) (pc at : ℕ) (bytes : List ℕ) → 168 ≤ code → code ≤ 177 → code ≢ 170 → code ≢ 171 → code ≢ 172 → code ≢ 173 → code ≢ 176 → code ≢ 177 → judged (operands_of pool code pc) at bytes ≡ Err 10
+others code pool pc at bytes low high n170 n171 n172 n173 n176 n177 =
+    refused_opcode pool code pc at bytes (sieved 168 10 (covers (rows pool)) listed (sieve pool) code low (omega arith) (not_listed code n170 n171 n172 n173 n176 n177))
+
+upto15 : (P : ℕ → Type 0) → P 0 → P 1 → P 2 → P 3 → P 4 → P 5 → P 6 → P 7 → P 8 → P 9 → P 10 → P 11 → P 12 → P 13 → P 14 → (j : ℕ) → j < 15 → P j
+upto15 P p0 p1 p2 p3 p4 p5 p6 p7 p8 p9 p10 p11 p12 p13 p14 zero lt = p0
+upto15 P p0 p1 p2 p3 p4 p5 p6 p7 p8 p9 p10 p11 p12 p13 p14 (suc zero) lt = p1
+upto15 P p0 p1 p2 p3 p4 p5 p6 p7 p8 p9 p10 p11 p12 p13 p14 (suc (suc zero)) lt = p2
+upto15 P p0 p1 p2 p3 p4 p5 p6 p7 p8 p9 p10 p11 p12 p13 p14 (suc (suc (suc zero))) lt = p3
+upto15 P p0 p1 p2 p3 p4 p5 p6 p7 p8 p9 p10 p11 p12 p13 p14 (suc (suc (suc (suc zero)))) lt = p4
+upto15 P p0 p1 p2 p3 p4 p5 p6 p7 p8 p9 p10 p11 p12 p13 p14 (suc (suc (suc (suc (suc zero))))) lt = p5
+upto15 P p0 p1 p2 p3 p4 p5 p6 p7 p8 p9 p10 p11 p12 p13 p14 (suc (suc (suc (suc (suc (suc zero)))))) lt = p6
+upto15 P p0 p1 p2 p3 p4 p5 p6 p7 p8 p9 p10 p11 p12 p13 p14 (suc (suc (suc (suc (suc (suc (suc zero))))))) lt = p7
+upto15 P p0 p1 p2 p3 p4 p5 p6 p7 p8 p9 p10 p11 p12 p13 p14 (suc (suc (suc (suc (suc (suc (suc (suc zero)))))))) lt = p8
+upto15 P p0 p1 p2 p3 p4 p5 p6 p7 p8 p9 p10 p11 p12 p13 p14 (suc (suc (suc (suc (suc (suc (suc (suc (suc zero))))))))) lt = p9
+upto15 P p0 p1 p2 p3 p4 p5 p6 p7 p8 p9 p10 p11 p12 p13 p14 (suc (suc (suc (suc (suc (suc (suc (suc (suc (suc zero)))))))))) lt = p10
+upto15 P p0 p1 p2 p3 p4 p5 p6 p7 p8 p9 p10 p11 p12 p13 p14 (suc (suc (suc (suc (suc (suc (suc (suc (suc (suc (suc zero))))))))))) lt = p11
+upto15 P p0 p1 p2 p3 p4 p5 p6 p7 p8 p9 p10 p11 p12 p13 p14 (suc (suc (suc (suc (suc (suc (suc (suc (suc (suc (suc (suc zero)))))))))))) lt = p12
+upto15 P p0 p1 p2 p3 p4 p5 p6 p7 p8 p9 p10 p11 p12 p13 p14 (suc (suc (suc (suc (suc (suc (suc (suc (suc (suc (suc (suc (suc zero))))))))))))) lt = p13
+upto15 P p0 p1 p2 p3 p4 p5 p6 p7 p8 p9 p10 p11 p12 p13 p14 (suc (suc (suc (suc (suc (suc (suc (suc (suc (suc (suc (suc (suc (suc zero)))))))))))))) lt = p14
+upto15 P p0 p1 p2 p3 p4 p5 p6 p7 p8 p9 p10 p11 p12 p13 p14 (suc (suc (suc (suc (suc (suc (suc (suc (suc (suc (suc (suc (suc (suc (suc j))))))))))))))) lt = absurd (omega arith)
+
+stop_at : (pool : Pool) (pc at : ℕ) (bytes : List ℕ) (n : ℕ) (make : ℕ → Instr) → operand u2 at bytes ≡ Err n → judged (jump pc make) at bytes ≡ Err n
+stop_at pool pc at bytes n make e = judged_stops u2 (λ (by : Placed ℕ). plain (make (target pc (cast_signed w16 by.value)))) at bytes n e
+
+pub branch_stops : (pool : Pool) (pc at : ℕ) (bytes : List ℕ) (code n : ℕ) → 153 ≤ code → code ≤ 167 → operand u2 at bytes ≡ Err n → judged (operands_of pool code pc) at bytes ≡ Err n
+unfolding operands_of
+branch_stops pool pc at bytes code n low high e =
+    let is : 153 + (code - 153) ≡ code = omega arith in
+    subst (λ (k : ℕ). judged (operands_of pool k pc) at bytes ≡ Err n) is
+    (upto15 (λ k. judged (operands_of pool (153 + k) pc) at bytes ≡ Err n)
+    (stop_at pool pc at bytes n (IfZero Eq) e) (stop_at pool pc at bytes n (IfZero Ne) e) (stop_at pool pc at bytes n (IfZero Lt) e) (stop_at pool pc at bytes n (IfZero Ge) e) (stop_at pool pc at bytes n (IfZero Gt) e) (stop_at pool pc at bytes n (IfZero Le) e) (stop_at pool pc at bytes n (IfInts Eq) e) (stop_at pool pc at bytes n (IfInts Ne) e) (stop_at pool pc at bytes n (IfInts Lt) e) (stop_at pool pc at bytes n (IfInts Ge) e) (stop_at pool pc at bytes n (IfInts Gt) e) (stop_at pool pc at bytes n (IfInts Le) e) (stop_at pool pc at bytes n IfSame e) (stop_at pool pc at bytes n IfOther e) (stop_at pool pc at bytes n Goto e)
+    (code - 153) (omega arith))
+
+pub ruleset branches = (branch_read, branch_stops)
+
+pub ruleset controls = (table_row, lookup_row, row_172, row_173, row_176, row_177)

@@ -1,0 +1,6 @@
+use Rattle.std.proofs.Common.{rules}
+use Rattle.th_code.proofs.Opcodes.{no_stack_move}
+use Rattle.th_code.proofs.bare.stack_move.Goals as goal
+
+pub returns-in_default-clause-none : goal.returns-in_default-clause-none
+returns-in_default-clause-none c = search (rules, no_stack_move)
