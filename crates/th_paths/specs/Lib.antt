@@ -1,0 +1,4 @@
+pub mod Paths
+pub mod Links
+pub mod Search
+pub mod Worked
