@@ -1,0 +1,10 @@
+pub mod Stopping
+pub mod Counted
+pub mod Placing
+pub mod Walking
+pub mod Naming
+pub mod ByType
+pub mod Coding
+pub mod Making
+pub mod Valued
+pub mod Checked

@@ -1,0 +1,9 @@
+use Rattle.std.proofs.Common.{◌≡◌, drop, map}
+use Rattle.std.specs.List.{flat_map}
+use Rattle.th_syntax.specs.Checks as checks
+use Rattle.th_reader.specs.RawView.{index_view}
+use Rattle.th_reader.specs.Passes.{front_flaw}
+use Rattle.th_reader.proofs.names.check_class_names.Given as goal
+
+abbrev pub invariant-loop-index : goal.invariant-loop-index
+invariant-loop-index l = front_flaw (flat_map (checks.class_name_flaws l.pool) (map index_view (drop l.index-index l.classes))) ≡ front_flaw (flat_map (checks.class_name_flaws l.pool) (map index_view l.classes))
