@@ -19,5 +19,7 @@ mod member;
 mod operand;
 mod read;
 mod switch;
+#[cfg(test)]
+mod tests;
 
 pub use code_array::decode;

@@ -20,6 +20,8 @@ mod layout;
 mod members;
 mod names;
 mod reader;
+#[cfg(test)]
+mod tests;
 mod value;
 
 pub use reader::read_class;
