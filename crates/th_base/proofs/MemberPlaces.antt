@@ -1,209 +1,236 @@
--- The places of a bucket are those of all numbers that fall into it, and a search along them misses none.
-use Rattle.std.proofs.Common.{◌≡◌, ℕ, ◌+◌, ◌<◌, ◌≤◌, ◌%◌, zero, suc, Bool, true, false, cond, ◌&&◌, eqb, List, [], ◌∷◌, ◌++◌, Option, Some, None, length, map, take, set, get_or, refl, sym, ap, ◌∙◌, subst, inl, inr, arith}
-use Rattle.std.specs.List.{filter, find, range_with_len, slice_get}
-use Rattle.std.specs.Option.{option_or, option_and_then, option_map_or}
+-- The index of a class's members: sorted by name and descriptor, its first entry of a key is that of the first member.
+use Rattle.std.proofs.Common.{◌≡◌, ℕ, ◌+◌, ◌<◌, ◌≤◌, zero, suc, Bool, true, false, not, cond, ◌&&◌, List, [], ◌∷◌, ◌++◌, Option, Some, None, length, take, get_or, refl, sym, ap, ◌∙◌, subst, inl, inr, arith, Bor, Ordering, Less, Equal, Greater}
+use denote.Param.Members.{Mut}
+use Rattle.std.specs.Cmp.{IsTotalOrder}
+use Rattle.std.specs.Cmp.Lexicographic.{slice_cmp}
+use Rattle.std.specs.Fn.{Called, ComparesAs}
+use Rattle.std.specs.List.{filter, find, slice_get}
+use Rattle.std.specs.List.Sorted.{IsSortedByKey, IsSortedByClosure, IsStableByClosure, IsNonDecreasingBy, IsPartitionedBy, IsPartitionPoint, ties}
+use Rattle.std.specs.Option.{option_and_then, option_copied, option_map}
+use Rattle.std.specs.Ordering.{nat_cmp, is_lt, is_eq, ordering_index, ordering_then, ordering_reverse}
+use Rattle.std.specs.Slice.{IsItemAt}
 use Rattle.std.specs.Str.{bytes_eq}
-use Rattle.std.proofs.lemmas.Bool.{cases_eq, cases_Bool, cases_lt, or_cases, or_right, eq-eqb, eqb-true, ne_eqb, both_ways}
-use Rattle.std.proofs.lemmas.List.{append-nil, take_more, take_all, length-map, get_or-set_same, get_or-set_other, get_or_default}
-use Rattle.std.proofs.lemmas.List.Elements.{filter-append}
-use Rattle.std.proofs.lemmas.Nat.{mod_below}
-use Rattle.std.proofs.lemmas.Option.{slice_get-get_or}
-use Rattle.std.proofs.lemmas.Slice.Eq.{bytes_eq-Decides}
+use Rattle.std.proofs.lemmas.Bool.{cases_Bool, cases_lt}
+use Rattle.std.proofs.lemmas.Cmp.{nat_list_cmp_total, on_total, then_total}
+use Rattle.std.proofs.lemmas.Fn.{always_returns_same}
+use Rattle.std.proofs.lemmas.List.{append-nil, take_more, length-take, get_or_default}
+use Rattle.std.proofs.lemmas.List.Elements.{filter_agree}
+use Rattle.std.proofs.lemmas.List.Sorted.{ranks_by, searchable_from_sorted}
+use Rattle.std.proofs.lemmas.Option.{slice_get-get_or, slice_get_past}
+use Rattle.std.proofs.lemmas.Map.Text.{is_eq-slice_cmp}
 use Rattle.th_base.specs.declared.class.ClassInfo.{ClassInfo}
+use Rattle.th_base.specs.declared.index.Entry.{Entry}
 use Rattle.th_base.specs.declared.members.Members.{Members}
-use Rattle.th_base.specs.IdSet.{has}
-use Rattle.th_base.specs.MemberIndex.{IsIndex, IsIndexed, AreIndexed, places_below, code_of}
-use Rattle.th_base.proofs.Alike.{find-append}
-use Rattle.th_base.proofs.Ascending.{has-filter, has_at, has_first}
+use Rattle.th_base.specs.MemberIndex.{IsIndex, IsIndexed, AreIndexed, entries_from, is_of, key_cmp, key_of}
 
-pub and_first : (a b : Bool) → (a && b) ≡ true → a ≡ true
-and_first true b h = refl
-and_first false b h = cc
+-- ---- the order of names and descriptors
 
-and_second : (a b : Bool) → (a && b) ≡ true → b ≡ true
-and_second true b h = h
-and_second false b h = cc
+abbrev Key : Type 0
+Key = List ℕ × List ℕ
 
-pub range_more : (a n : ℕ) → range_with_len a (suc n) ≡ range_with_len a n ++ (a + n) ∷ []
-range_more a zero = let e : a + 0 ≡ a = omega arith in rw e refl
-range_more a (suc n) = let e : (a + 1) + n ≡ a + suc n = omega arith in ap (λ l. a ∷ l) (range_more (a + 1) n ∙ ap (λ k. range_with_len (a + 1) n ++ k ∷ []) e)
+key_total : IsTotalOrder key_cmp
+key_total = then_total (on_total (λ (k : Key). k.0) nat_list_cmp_total) (on_total (λ (k : Key). k.1) nat_list_cmp_total)
 
-places_more : (codes : List ℕ) (n b i : ℕ) → places_below codes n b (i + 1) ≡ places_below codes n b i ++ cond (eqb (get_or codes i 0 % n) b) (i ∷ []) []
-places_more codes n b i =
-    let next : i + 1 ≡ suc i = omega arith in
-    let from : 0 + i ≡ i = omega arith in
-    ap (λ k. filter (λ j. eqb (get_or codes j 0 % n) b) (range_with_len 0 k)) next
-    ∙ ap (filter (λ j. eqb (get_or codes j 0 % n) b)) (range_more 0 i ∙ ap (λ k. range_with_len 0 i ++ k ∷ []) from)
-    ∙ filter-append (λ j. eqb (get_or codes j 0 % n) b) (range_with_len 0 i) (i ∷ [])
+then_equal : (a b : Ordering) → is_eq (ordering_then a b) ≡ (is_eq a && is_eq b)
+then_equal Less b = refl
+then_equal Equal b = refl
+then_equal Greater b = refl
 
--- one place more is put into its bucket
-pub placed : (codes : List ℕ) (old new : List (List ℕ)) (i n k : ℕ) → n ≡ length codes → k ≡ get_or codes i 0 % n → k < length old
-    → ((b : ℕ) → b < n → get_or old b [] ≡ places_below codes n b i) → new ≡ set old k (get_or old k [] ++ i ∷ [])
-    → (b : ℕ) → b < n → get_or new b [] ≡ places_below codes n b (i + 1)
-placed codes old new i n k all is inside before put b h =
-    elim (cases_eq b k) [
-      | inl same ↦
-          let here : eqb (get_or codes i 0 % n) b ≡ true = eq-eqb (get_or codes i 0 % n) b (sym is ∙ sym same) in
-          ap (λ l. get_or l b []) put ∙ ap (λ x. get_or (set old k (get_or old k [] ++ i ∷ [])) x []) same
-          ∙ get_or-set_same old k (get_or old k [] ++ i ∷ []) [] inside
-          ∙ ap (λ x. get_or old x [] ++ i ∷ []) (sym same)
-          ∙ ap (λ l. l ++ i ∷ []) (before b h)
-          ∙ sym (places_more codes n b i ∙ ap (λ t. places_below codes n b i ++ cond t (i ∷ []) []) here)
-      | inr other ↦
-          let there : eqb (get_or codes i 0 % n) b ≡ false = ne_eqb (get_or codes i 0 % n) b (λ e. other (sym (is ∙ e))) in
-          ap (λ l. get_or l b []) put ∙ get_or-set_other old k b (get_or old k [] ++ i ∷ []) [] other
-          ∙ before b h
-          ∙ sym (places_more codes n b i ∙ ap (λ t. places_below codes n b i ++ cond t (i ∷ []) []) there ∙ append-nil (places_below codes n b i))
+-- an entry's key is equal to one just where it is of that name and descriptor
+equal_key : (e : Entry) (name descriptor : List ℕ) → is_eq (key_cmp (key_of e) (name, descriptor)) ≡ is_of name descriptor e
+equal_key e name descriptor =
+    then_equal (slice_cmp nat_cmp e.name name) (slice_cmp nat_cmp e.descriptor descriptor)
+    ∙ ap (λ b. b && is_eq (slice_cmp nat_cmp e.descriptor descriptor)) (is_eq-slice_cmp e.name name)
+    ∙ ap (λ b. bytes_eq e.name name && b) (is_eq-slice_cmp e.descriptor descriptor)
+
+neither_below : (r : Ordering) → (not (is_lt (ordering_reverse r)) && not (is_lt r)) ≡ is_eq r
+neither_below Less = refl
+neither_below Equal = refl
+neither_below Greater = refl
+
+abbrev below : Entry → Entry → Bool
+below a b = is_lt (key_cmp (key_of a) (key_of b))
+
+tied : (x e : Entry) → ties below x e ≡ is_of x.name x.descriptor e
+tied x e =
+    ap (λ r. not (is_lt r) && not (below e x)) (key_total.antisymm (key_of x) (key_of e))
+    ∙ neither_below (key_cmp (key_of e) (key_of x)) ∙ equal_key e x.name x.descriptor
+
+-- what a stable sort by name and descriptor gives
+pub sorted_index : {F : Type 0} {g : Mut F (Bor Entry × (Bor Entry × Unit {0})) Ordering} {f : F} (xs ys : List Entry) → IsSortedByClosure g f ys → IsStableByClosure g f xs ys
+    → ((a : Bor Entry × (Bor Entry × Unit {0})) (r : Ordering) (f' : F) → Called g f a r f' → (r ≡ key_cmp (key_of a.0.now) (key_of a.1.0.now)) × (f' ≡ f)) → IsIndex xs ys
+sorted_index {g = g} {f = f} xs ys up stable h =
+    let compares : ComparesAs g below f = always_returns_same g (λ a r. is_lt r ≡ below a.0.now a.1.0.now) f (λ a r f' k. (ap is_lt (h a r f' k).0, (h a r f' k).1)) in
+    record {
+      ascending = up below (ranks_by key_total key_of) compares;
+      same = λ name descriptor.
+          let x : Entry = record { name = name; descriptor = descriptor; place = 0 } in
+          filter_agree (is_of name descriptor) (ties below x) (λ e. sym (tied x e)) ys
+          ∙ stable below (ranks_by key_total key_of) compares x
+          ∙ filter_agree (ties below x) (is_of name descriptor) (tied x) xs;
+    }
+
+-- ---- a search in the order
+
+abbrev pub is_below : List ℕ → List ℕ → Entry → Bool
+is_below name descriptor e = is_lt (key_cmp (key_of e) (name, descriptor))
+
+rises : (ys : List Entry) (name descriptor : List ℕ) → IsSortedByKey key_of key_cmp ys → IsNonDecreasingBy (λ e. ordering_index (key_cmp (key_of e) (name, descriptor))) ys
+rises ys name descriptor up = searchable_from_sorted key_total key_of ys (name, descriptor) up
+
+below_before : (r s : Ordering) → ordering_index r ≤ ordering_index s → is_lt s ≡ true → is_lt r ≡ true
+below_before Less s h e = refl
+below_before Equal Less h e = absurd (omega arith)
+below_before Equal Equal h e = cc
+below_before Equal Greater h e = cc
+below_before Greater Less h e = absurd (omega arith)
+below_before Greater Equal h e = cc
+below_before Greater Greater h e = cc
+
+pub below_first : (ys : List Entry) (name descriptor : List ℕ) → IsSortedByKey key_of key_cmp ys → IsPartitionedBy (is_below name descriptor) ys
+below_first ys name descriptor up = λ i j d h k e. below_before _ _ (rises ys name descriptor up i j d h k) e
+
+below_other : (r : Ordering) → is_lt r ≡ true → is_eq r ≡ false
+below_other Less e = refl
+below_other Equal e = cc
+below_other Greater e = cc
+
+beyond_other : (r s : Ordering) → ordering_index r ≤ ordering_index s → is_lt r ≡ false → is_eq r ≡ false → is_eq s ≡ false
+beyond_other Less s h e g = cc
+beyond_other Equal s h e g = cc
+beyond_other Greater Less h e g = refl
+beyond_other Greater Equal h e g = absurd (omega arith)
+beyond_other Greater Greater h e g = refl
+
+find_none : {X : Type 0} (p : X → Bool) (ys : List X) → ((k : ℕ) (d : X) → k < length ys → p (get_or ys k d) ≡ false) → find p ys ≡ None
+find_none p [] h = refl
+find_none p (y ∷ ys) h = ap (λ b. cond b (Some y) (find p ys)) (h 0 y (omega arith)) ∙ find_none p ys (λ k d g. h (suc k) d (omega arith))
+
+find_some : {X : Type 0} (p : X → Bool) (ys : List X) (j : ℕ) (y : X) → j < length ys → y ≡ get_or ys j y → ((k : ℕ) (d : X) → k < j → p (get_or ys k d) ≡ false) → p y ≡ true → find p ys ≡ Some y
+find_some p [] j y h e before here = absurd (omega arith)
+find_some p (x ∷ ys) zero y h e before here = ap (λ z. cond (p z) (Some z) (find p ys)) (sym e) ∙ ap (λ b. cond b (Some y) (find p ys)) here
+find_some p (x ∷ ys) (suc j) y h e before here =
+    ap (λ b. cond b (Some x) (find p ys)) (before 0 x (omega arith)) ∙ find_some p ys j y (omega arith) e (λ k d g. before (suc k) d (omega arith)) here
+
+module _ (ys : List Entry) (name descriptor : List ℕ) (at : ℕ) (up : IsSortedByKey key_of key_cmp ys)
+    (split : IsPartitionPoint (λ e. is_below name descriptor e ≡ true) (λ e. is_below name descriptor e ≡ false) ys at) where
+  not_before : (k : ℕ) (d : Entry) → k < at → is_of name descriptor (get_or ys k d) ≡ false
+  not_before k d h = sym (equal_key (get_or ys k d) name descriptor) ∙ below_other _ (split.0 k d (omega arith) h)
+
+  -- the first entry that isn't below is of the key
+  pub search_found : (e : Entry) → at < length ys → e ≡ get_or ys at e → is_eq (key_cmp (key_of e) (name, descriptor)) ≡ true → find (is_of name descriptor) ys ≡ Some e
+  search_found e h is same = find_some (is_of name descriptor) ys at e h is not_before (sym (equal_key e name descriptor) ∙ same)
+
+  -- it is of another
+  pub search_missed : (e : Entry) → at < length ys → e ≡ get_or ys at e → is_eq (key_cmp (key_of e) (name, descriptor)) ≡ false → find (is_of name descriptor) ys ≡ None
+  search_missed e h is other = find_none (is_of name descriptor) ys (λ k d g.
+      elim (cases_lt k at) [
+        | inl before ↦ not_before k d before
+        | inr from ↦
+            let here : get_or ys at d ≡ e = get_or_default ys at d e h ∙ sym is in
+            sym (equal_key (get_or ys k d) name descriptor)
+            ∙ beyond_other (key_cmp (key_of (get_or ys at d)) (name, descriptor)) _ (rises ys name descriptor up at k d from g) (split.1 at d (omega arith) h)
+            (ap (λ x. is_eq (key_cmp (key_of x) (name, descriptor))) here ∙ other)
+      ])
+
+  -- there is none
+  pub search_past : length ys ≤ at → find (is_of name descriptor) ys ≡ None
+  search_past h = find_none (is_of name descriptor) ys (λ k d g. not_before k d (omega arith))
+
+-- ---- the entries of a class's members
+
+and_false : (b : Bool) → (b && false) ≡ false
+and_false true = refl
+and_false false = refl
+
+pub and_true : (b : Bool) → b ≡ (b && true)
+and_true true = refl
+and_true false = refl
+
+first_filtered : {X : Type 0} (p : X → Bool) (ys : List X) → find p ys ≡ slice_get (filter p ys) 0
+first_filtered p [] = refl
+first_filtered p (y ∷ ys) =
+    elim (cases_Bool (p y)) [
+      | inl passes ↦ ap (λ b. cond b (Some y) (find p ys)) passes ∙ sym (ap (λ b. slice_get (cond b (y ∷ filter p ys) (filter p ys)) 0) passes)
+      | inr fails ↦ ap (λ b. cond b (Some y) (find p ys)) fails ∙ first_filtered p ys ∙ sym (ap (λ b. slice_get (cond b (y ∷ filter p ys) (filter p ys)) 0) fails)
     ]
 
--- ---- a search along a list, item by item
+module _ {X : Type 0} (keeps : X → Bool) (name descriptor : X → List ℕ) where
+  abbrev entry : X → ℕ → Entry
+  entry x place = record { name = name x; descriptor = descriptor x; place = place }
 
-pub find_at : {X : Type 0} (r : X → Bool) (ys : List X) (j : ℕ) (y : X) → j < length ys → y ≡ get_or ys j y → find r (take j ys) ≡ None → r y ≡ true → find r ys ≡ Some y
-find_at r [] j y h e before here = absurd (omega arith)
-find_at r (x ∷ ys) zero y h e before here = ap (λ z. cond (r z) (Some z) (find r ys)) (sym e) ∙ ap (λ b. cond b (Some y) (find r ys)) here
-find_at r (x ∷ ys) (suc j) y h e before here =
-    elim (cases_Bool (r x)) [
-      | inl first ↦ absurd (let found : Some x ≡ None = ap (λ b. cond b (Some x) (find r (take j ys))) (sym first) ∙ before in cc)
-      | inr not_first ↦
-          ap (λ b. cond b (Some x) (find r ys)) not_first
-          ∙ find_at r ys j y (omega arith) e (ap (λ b. cond b (Some x) (find r (take j ys))) (sym not_first) ∙ before) here
-    ]
+  abbrev from : ℕ → List X → List Entry
+  from = entries_from keeps name descriptor
 
-pub find_more : {X : Type 0} (r : X → Bool) (ys : List X) (j : ℕ) (y : X) → j < length ys → y ≡ get_or ys j y → find r (take j ys) ≡ None → r y ≡ false → find r (take (j + 1) ys) ≡ None
-find_more r ys j y h e before here =
-    ap (find r) (take_more ys j y h ∙ ap (λ z. take j ys ++ z ∷ []) (sym e)) ∙ find-append r (take j ys) (y ∷ [])
-    ∙ ap (λ o. option_or o (find r (y ∷ []))) before ∙ ap (λ b. cond b (Some y) None) here
+  entries-append : (a : ℕ) (xs ys : List X) → from a (xs ++ ys) ≡ from a xs ++ from (a + length xs) ys
+  entries-append a [] ys = let e : a ≡ a + 0 = omega arith in ap (λ n. from n ys) e
+  entries-append a (x ∷ xs) ys =
+      let e : (a + 1) + length xs ≡ a + suc (length xs) = omega arith in
+      let rest = entries-append (a + 1) xs ys ∙ ap (λ n. from (a + 1) xs ++ from n ys) e in
+      elim (cases_Bool (keeps x)) [
+        | inl kept ↦
+            ap (λ b. cond b (entry x a ∷ from (a + 1) (xs ++ ys)) (from (a + 1) (xs ++ ys))) kept ∙ ap (λ l. entry x a ∷ l) rest
+            ∙ sym (ap (λ b. cond b (entry x a ∷ from (a + 1) xs) (from (a + 1) xs) ++ from (a + suc (length xs)) ys) kept)
+        | inr left ↦
+            ap (λ b. cond b (entry x a ∷ from (a + 1) (xs ++ ys)) (from (a + 1) (xs ++ ys))) left ∙ rest
+            ∙ sym (ap (λ b. cond b (entry x a ∷ from (a + 1) xs) (from (a + 1) xs) ++ from (a + suc (length xs)) ys) left)
+      ]
 
-pub find_whole : {X : Type 0} (r : X → Bool) (ys : List X) (j : ℕ) → length ys ≤ j → find r (take j ys) ≡ None → find r ys ≡ None
-find_whole r ys j h e = ap (find r) (sym (take_all j ys h)) ∙ e
+  -- the entries as far as one member more
+  entries_more : (xs : List X) (i : ℕ) (x : X) → i < length xs → x ≡ get_or xs i x → from 0 (take (i + 1) xs) ≡ from 0 (take i xs) ++ cond (keeps x) (entry x i ∷ []) []
+  entries_more xs i x h e =
+      let at : 0 + length (take i xs) ≡ i = omega (arith, length-take i xs) in
+      ap (from 0) (take_more xs i x h ∙ ap (λ z. take i xs ++ z ∷ []) (sym e)) ∙ entries-append 0 (take i xs) (x ∷ [])
+      ∙ ap (λ n. from 0 (take i xs) ++ cond (keeps x) (entry x n ∷ []) []) at
 
-outside_fails : (r q : ℕ → Bool) (y : ℕ) → (r y ≡ true → q y ≡ true) → q y ≡ false → (b : Bool) → r y ≡ b → r y ≡ false
-outside_fails r q y h out false e = e
-outside_fails r q y h out true e = absurd (both_ways _ out (h e))
+  pub entries_kept : (xs : List X) (i : ℕ) (x : X) → i < length xs → x ≡ get_or xs i x → keeps x ≡ true → from 0 (take (i + 1) xs) ≡ from 0 (take i xs) ++ entry x i ∷ []
+  entries_kept xs i x h e kept = entries_more xs i x h e ∙ ap (λ b. from 0 (take i xs) ++ cond b (entry x i ∷ []) []) kept
 
-find_filter : (r q : ℕ → Bool) (ys : List ℕ) → ((y : ℕ) → has ys y ≡ true → r y ≡ true → q y ≡ true) → find r (filter q ys) ≡ find r ys
-find_filter r q [] h = refl
-find_filter r q (y ∷ ys) h =
-    let rest = find_filter r q ys (λ z g. h z (or_right (eqb y z) (has ys z) g)) in
-    elim (cases_Bool (q y)) [
-      | inl in_it ↦ ap (λ b. find r (cond b (y ∷ filter q ys) (filter q ys))) in_it ∙ ap (λ o. cond (r y) (Some y) o) rest
-      | inr out ↦ ap (λ b. find r (cond b (y ∷ filter q ys) (filter q ys))) out ∙ rest
-          ∙ sym (ap (λ b. cond b (Some y) (find r ys)) (outside_fails r q y (h y (has_first y ys)) out (r y) refl))
-    ]
+  pub entries_left : (xs : List X) (i : ℕ) (x : X) → i < length xs → x ≡ get_or xs i x → keeps x ≡ false → from 0 (take (i + 1) xs) ≡ from 0 (take i xs)
+  entries_left xs i x h e left = entries_more xs i x h e ∙ ap (λ b. from 0 (take i xs) ++ cond b (entry x i ∷ []) []) left ∙ append-nil (from 0 (take i xs))
 
--- a search along the items is one along their places
-find_range : {X : Type 0} (p : X → Bool) (f : ℕ → Option X) (a : ℕ) (xs : List X) → ((i : ℕ) → i < length xs → f (a + i) ≡ slice_get xs i)
-    → find p xs ≡ option_and_then f (find (λ i. option_map_or p (f i) false) (range_with_len a (length xs)))
-find_range p f a [] h = refl
-find_range p f a (x ∷ xs) h =
-    let here : f a ≡ Some x = let e : a + 0 ≡ a = omega arith in ap f (sym e) ∙ h 0 (omega arith) in
-    let rest = find_range p f (a + 1) xs (λ i g. let e : (a + 1) + i ≡ a + suc i = omega arith in ap f e ∙ h (suc i) (omega arith)) in
-    elim (cases_Bool (p x)) [
-      | inl passes ↦
-          ap (λ b. cond b (Some x) (find p xs)) passes ∙ sym here
-          ∙ sym (ap (λ b. option_and_then f (cond b (Some a) (find (λ i. option_map_or p (f i) false) (range_with_len (a + 1) (length xs))))) (ap (λ o. option_map_or p o false) here ∙ passes))
-      | inr fails ↦
-          ap (λ b. cond b (Some x) (find p xs)) fails ∙ rest
-          ∙ sym (ap (λ b. option_and_then f (cond b (Some a) (find (λ i. option_map_or p (f i) false) (range_with_len (a + 1) (length xs))))) (ap (λ o. option_map_or p o false) here ∙ fails))
-    ]
+  module _ (wanted kind : List ℕ) (p : X → Bool) (asks : (x : X) → p x ≡ ((bytes_eq (name x) wanted && bytes_eq (descriptor x) kind) && keeps x)) (f : ℕ → Option X) where
+    abbrev answer : List Entry → Option X
+    answer es = option_and_then f (option_map (λ e. e.place) (find (is_of wanted kind) es))
 
--- ---- the places that are asked for a number
+    -- a search along the members is one along their entries
+    find_entries : (a : ℕ) (xs : List X) → ((i : ℕ) → i < length xs → f (a + i) ≡ slice_get xs i)
+        → find p xs ≡ option_and_then f (option_map (λ e. e.place) (find (is_of wanted kind) (from a xs)))
+    find_entries a [] h = refl
+    find_entries a (x ∷ xs) h =
+        let here : f a ≡ Some x = let e : a ≡ a + 0 = omega arith in ap f e ∙ h 0 (omega arith) in
+        let rest = find_entries (a + 1) xs (λ i g. let e : (a + 1) + i ≡ a + suc i = omega arith in ap f e ∙ h (suc i) (omega arith)) in
+        elim (cases_Bool (keeps x)) [
+          | inl kept ↦
+              let listed : answer (from a (x ∷ xs)) ≡ answer (entry x a ∷ from (a + 1) xs) = ap (λ b. answer (cond b (entry x a ∷ from (a + 1) xs) (from (a + 1) xs))) kept in
+              elim (cases_Bool (is_of wanted kind (entry x a))) [
+                | inl same ↦
+                    ap (λ b. cond b (Some x) (find p xs)) (asks x ∙ ap (λ b. b && keeps x) same ∙ kept) ∙ sym here
+                    ∙ sym (listed ∙ ap (λ b. option_and_then f (option_map (λ e. e.place) (cond b (Some (entry x a)) (find (is_of wanted kind) (from (a + 1) xs))))) same)
+                | inr other ↦
+                    ap (λ b. cond b (Some x) (find p xs)) (asks x ∙ ap (λ b. b && keeps x) other) ∙ rest
+                    ∙ sym (listed ∙ ap (λ b. option_and_then f (option_map (λ e. e.place) (cond b (Some (entry x a)) (find (is_of wanted kind) (from (a + 1) xs))))) other)
+              ]
+          | inr left ↦
+              ap (λ b. cond b (Some x) (find p xs)) (asks x ∙ ap (λ b. is_of wanted kind (entry x a) && b) left ∙ and_false (is_of wanted kind (entry x a))) ∙ rest
+              ∙ sym (ap (λ b. answer (cond b (entry x a ∷ from (a + 1) xs) (from (a + 1) xs))) left)
+        ]
 
-pub record AreAsked (codes : List ℕ) (code : ℕ) (places : List ℕ) : Type 0 where
-  pub inside : (j : ℕ) → j < length places → get_or places j 0 < length codes
-  pub same : (r : ℕ → Bool) → ((i : ℕ) → i < length codes → r i ≡ true → get_or codes i 0 ≡ code) → find r places ≡ find r (range_with_len 0 (length codes))
+-- a search along the members has the answer of one along the index of their entries
+pub find_indexed : {X : Type 0} (keeps : X → Bool) (name descriptor : X → List ℕ) (wanted kind : List ℕ) (p : X → Bool)
+    → ((x : X) → p x ≡ ((bytes_eq (name x) wanted && bytes_eq (descriptor x) kind) && keeps x)) → (xs : List X) (sorted : List Entry) → IsIndex (entries_from keeps name descriptor 0 xs) sorted
+    → find p xs ≡ option_and_then (slice_get xs) (option_map (λ e. e.place) (find (is_of wanted kind) sorted))
+find_indexed keeps name descriptor wanted kind p asks xs sorted index =
+    let entries = entries_from keeps name descriptor 0 xs in
+    let same : find (is_of wanted kind) entries ≡ find (is_of wanted kind) sorted =
+    first_filtered (is_of wanted kind) entries ∙ ap (λ l. slice_get l 0) (sym (index.same wanted kind)) ∙ sym (first_filtered (is_of wanted kind) sorted) in
+    find_entries keeps name descriptor wanted kind p asks (slice_get xs) 0 xs (λ i h. let e : 0 + i ≡ i = omega arith in ap (slice_get xs) e)
+    ∙ ap (λ o. option_and_then (slice_get xs) (option_map (λ e. e.place) o)) same
 
-range_inside : (a n x : ℕ) → has (range_with_len a n) x ≡ true → x < a + n
-range_inside a zero x h = absurd (both_ways _ refl h)
-range_inside a (suc n) x h =
-    elim (or_cases (eqb a x) (has (range_with_len (a + 1) n) x) h) [
-      | inl same ↦ let e = eqb-true a x same in omega arith
-      | inr later ↦ let below = range_inside (a + 1) n x later in omega arith
-    ]
-
-below_inside : (n x : ℕ) → has (range_with_len 0 n) x ≡ true → x < n
-below_inside n x h = let below = range_inside 0 n x h in omega arith
-
-pub asked : (codes : List ℕ) (buckets : List (List ℕ)) (code : ℕ) (places : List ℕ) → IsIndex codes buckets
-    → (length buckets ≡ 0 → places ≡ []) → (0 < length buckets → places ≡ get_or buckets (code % length buckets) []) → AreAsked codes code places
-asked codes buckets code places index none some =
-    elim (cases_lt 0 (length buckets)) [
-      | inl more ↦
-          let n = length buckets in
-          let bucket = code % n in
-          let is : places ≡ places_below codes n bucket (length codes) = some more ∙ index.holds bucket (mod_below code n more) in
-          record {
-            inside = λ j h.
-                let listed = has_at places (get_or places j 0) j h refl in
-                let kept = sym (has-filter (λ i. eqb (get_or codes i 0 % n) bucket) (range_with_len 0 (length codes)) (get_or places j 0)) ∙ ap (λ l. has l (get_or places j 0)) (sym is) ∙ listed in
-                below_inside (length codes) (get_or places j 0) (and_second _ _ kept);
-            same = λ r h. ap (find r) is
-                ∙ find_filter r (λ i. eqb (get_or codes i 0 % n) bucket) (range_with_len 0 (length codes))
-                (λ i g e. eq-eqb (get_or codes i 0 % n) bucket (ap (λ k. k % n) (h i (below_inside (length codes) i g) e)));
-          }
-      | inr less ↦
-          let no_bucket : length buckets ≡ 0 = omega arith in
-          let no_code : length codes ≡ 0 = omega (arith, index.as_many) in
-          record {
-            inside = λ j h. absurd (let e = ap length (none no_bucket) in omega arith);
-            same = λ r h. ap (find r) (none no_bucket) ∙ ap (λ k. find r (range_with_len 0 k)) (sym no_code);
-          }
-    ]
-
--- ---- an item of a list, found along the places that are asked for its number
-
-abbrev pub at_place : {X : Type 0} → (X → Bool) → List X → ℕ → Bool
-at_place p xs i = option_map_or p (slice_get xs i) false
-
-mapped_at : {X : Type 0} (g : X → ℕ) (xs : List X) (i : ℕ) (x : X) → slice_get xs i ≡ Some x → get_or (map g xs) i 0 ≡ g x
-mapped_at g [] i x e = cc
-mapped_at g (y ∷ ys) zero x e = let same : y ≡ x = cc in ap g same
-mapped_at g (y ∷ ys) (suc i) x e = mapped_at g ys i x e
-
-coded : {X : Type 0} (p : X → Bool) (g : X → ℕ) (xs : List X) (code : ℕ) → ((x : X) → p x ≡ true → g x ≡ code)
-    → (i : ℕ) (o : Option X) → slice_get xs i ≡ o → option_map_or p o false ≡ true → get_or (map g xs) i 0 ≡ code
-coded p g xs code alike i None e h = absurd (both_ways _ refl h)
-coded p g xs code alike i (Some x) e h = mapped_at g xs i x e ∙ alike x h
-
-pub whole_search : {X : Type 0} (p : X → Bool) (g : X → ℕ) (xs : List X) (code : ℕ) (places : List ℕ) → AreAsked (map g xs) code places
-    → ((x : X) → p x ≡ true → g x ≡ code) → find p xs ≡ option_and_then (slice_get xs) (find (at_place p xs) places)
-whole_search p g xs code places a alike =
-    find_range p (slice_get xs) 0 xs (λ i h. let e : 0 + i ≡ i = omega arith in ap (slice_get xs) e)
-    ∙ ap (λ n. option_and_then (slice_get xs) (find (at_place p xs) (range_with_len 0 n))) (sym (length-map xs g))
-    ∙ ap (option_and_then (slice_get xs)) (sym (a.same (at_place p xs) (λ i h e. coded p g xs code alike i (slice_get xs i) refl e)))
-
--- the item at the next place passes
-pub place_found : {X : Type 0} (p : X → Bool) (g : X → ℕ) (xs : List X) (code : ℕ) (places : List ℕ) (j : ℕ) (x : X) → AreAsked (map g xs) code places
-    → ((y : X) → p y ≡ true → g y ≡ code) → j < length places → find (at_place p xs) (take j places) ≡ None → x ≡ get_or xs (get_or places j 0) x → p x ≡ true
-    → Some x ≡ find p xs
-place_found p g xs code places j x a alike h before e passes =
-    let i = get_or places j 0 in
-    let inside : i < length xs = let below = a.inside j h in omega (arith, length-map xs g) in
-    let here : slice_get xs i ≡ Some x = slice_get-get_or xs i x inside ∙ ap (λ y. Some y) (sym e) in
-    let found = find_at (at_place p xs) places j i h (get_or_default places j 0 i h) before (ap (λ o. option_map_or p o false) here ∙ passes) in
-    sym (whole_search p g xs code places a alike ∙ ap (option_and_then (slice_get xs)) found ∙ here)
-
--- the item at the next place fails
-pub place_missed : {X : Type 0} (p : X → Bool) (g : X → ℕ) (xs : List X) (code : ℕ) (places : List ℕ) (j : ℕ) (x : X) → AreAsked (map g xs) code places
-    → j < length places → find (at_place p xs) (take j places) ≡ None → x ≡ get_or xs (get_or places j 0) x → p x ≡ false
-    → find (at_place p xs) (take (j + 1) places) ≡ None
-place_missed p g xs code places j x a h before e fails =
-    let i = get_or places j 0 in
-    let inside : i < length xs = let below = a.inside j h in omega (arith, length-map xs g) in
-    let here : slice_get xs i ≡ Some x = slice_get-get_or xs i x inside ∙ ap (λ y. Some y) (sym e) in
-    find_more (at_place p xs) places j i h (get_or_default places j 0 i h) before (ap (λ o. option_map_or p o false) here ∙ fails)
-
--- no item passes
-pub places_missed : {X : Type 0} (p : X → Bool) (g : X → ℕ) (xs : List X) (code : ℕ) (places : List ℕ) (j : ℕ) → AreAsked (map g xs) code places
-    → ((y : X) → p y ≡ true → g y ≡ code) → length places ≤ j → find (at_place p xs) (take j places) ≡ None → None ≡ find p xs
-places_missed p g xs code places j a alike h before =
-    sym (whole_search p g xs code places a alike ∙ ap (option_and_then (slice_get xs)) (find_whole (at_place p xs) places j h before))
-
--- ---- the number of a name and a descriptor
-
-pub same_code : (a b name descriptor : List ℕ) → (bytes_eq a name && bytes_eq b descriptor) ≡ true → code_of a b ≡ code_of name descriptor
-same_code a b name descriptor h =
-    ap (λ x. code_of x b) ((bytes_eq-Decides a name).0 (and_first _ _ h)) ∙ ap (code_of name) ((bytes_eq-Decides b descriptor).0 (and_second _ _ h))
+-- what is got at the place that an index gave
+pub got_at : {X : Type 0} (xs : List X) (i : ℕ) (r : Option (Bor X)) → IsItemAt xs i r → option_copied r ≡ slice_get xs i
+got_at xs i None h = sym (slice_get_past xs i h.3)
+got_at xs i (Some x) h = ap (λ y. Some y) h.1 ∙ sym (slice_get-get_or xs i x.now h.3.0)
 
 -- ---- the indexes of all classes
 

@@ -1,40 +1,59 @@
 -- Private to the hierarchy: the index by which a class finds its members, and what holds of it.
-use Rattle.std.specs.Prelude.{ℕ, ◌≡◌, ◌<◌, ◌==◌, ◌%◌, ◌*◌, ◌^◌, bit_xor, List, [], ◌∷◌, map, filter, length, slice_index}
-use Rattle.std.specs.List.{range_with_len, slice_index_or}
+use Rattle.std.specs.Prelude.{ℕ, ◌≡◌, ◌+◌, Bool, true, not, ◌&&◌, List, [], ◌∷◌, filter, if◌then◌else◌}
+use Rattle.std.specs.List.Sorted.{IsSortedByKey}
+use Rattle.std.specs.Ordering.{nat_cmp, ordering_then}
+use Rattle.std.specs.declared.cmp.Ordering.{Ordering}
+use Rattle.std.specs.Cmp.Lexicographic.{slice_cmp}
+use Rattle.std.specs.Str.{bytes_eq}
 use Rattle.th_base.specs.declared.class.ClassInfo.{ClassInfo}
 use Rattle.th_base.specs.declared.class.FieldInfo.{FieldInfo}
 use Rattle.th_base.specs.declared.class.MethodInfo.{MethodInfo}
 use Rattle.th_base.specs.declared.members.Members.{Members}
-use Rattle.th_base.specs.declared.index.TheConstants.{FACTOR, START}
+use Rattle.th_base.specs.declared.index.Entry.{Entry}
 
--- a number made of a text's bytes, from a number on
-abbrev pub code_along : ℕ → List ℕ → ℕ
-code_along code [] = code
-code_along code (x ∷ xs) = code_along ((bit_xor code x * FACTOR) % 2 ^ 64) xs
+-- the order of names and descriptors, byte by byte: of two equal names, that of the descriptors
+abbrev pub key_cmp : List ℕ × List ℕ → List ℕ × List ℕ → Ordering
+key_cmp a b = ordering_then (slice_cmp nat_cmp a.0 b.0) (slice_cmp nat_cmp a.1 b.1)
 
--- the number of a name and a descriptor. Equal ones have equal numbers.
-abbrev pub code_of : List ℕ → List ℕ → ℕ
-code_of name descriptor = code_along (code_along START name) descriptor
+-- the entry of a member at a place
+abbrev pub entry_of : List ℕ → List ℕ → ℕ → Entry
+entry_of name descriptor place = record { name = name; descriptor = descriptor; place = place }
 
-abbrev pub field_codes : List FieldInfo → List ℕ
-field_codes fields = map (λ f. code_of f.name f.descriptor) fields
+-- an entry's name and descriptor
+abbrev pub key_of : Entry → List ℕ × List ℕ
+key_of e = (e.name, e.descriptor)
 
-abbrev pub method_codes : List MethodInfo → List ℕ
-method_codes methods = map (λ m. code_of m.name m.descriptor) methods
+-- whether an entry is of this name and descriptor
+abbrev pub is_of : List ℕ → List ℕ → Entry → Bool
+is_of name descriptor e = bytes_eq e.name name && bytes_eq e.descriptor descriptor
 
--- the places, below a bound, of the numbers that fall into a bucket
-abbrev pub places_below : List ℕ → ℕ → ℕ → ℕ → List ℕ
-places_below codes buckets bucket bound = filter (λ i. slice_index codes i % buckets == bucket) (range_with_len 0 bound)
+-- the entries of the members that pass a test, in order; the first member has this place
+abbrev pub entries_from : {X : Type 0} → (X → Bool) → (X → List ℕ) → (X → List ℕ) → ℕ → List X → List Entry
+entries_from keeps name descriptor place [] = []
+entries_from keeps name descriptor place (x ∷ xs) =
+    let rest = entries_from keeps name descriptor (place + 1) xs in
+    if keeps x then entry_of (name x) (descriptor x) place ∷ rest else rest
 
--- each bucket holds the places of the numbers that fall into it, ascending
-pub record IsIndex (codes : List ℕ) (buckets : List (List ℕ)) : Type 0 where
-  pub as_many : length buckets ≡ length codes
-  pub holds : (b : ℕ) → b < length buckets → slice_index_or buckets b [] ≡ places_below codes (length buckets) b (length codes)
+abbrev pub field_entries : List FieldInfo → List Entry
+field_entries fields = entries_from (λ f. true) (λ f. f.name) (λ f. f.descriptor) 0 fields
+
+abbrev pub method_entries : List MethodInfo → List Entry
+method_entries methods = entries_from (λ m. true) (λ m. m.name) (λ m. m.descriptor) 0 methods
+
+-- those of the instance methods that aren't private
+abbrev pub overriding_entries : List MethodInfo → List Entry
+overriding_entries methods = entries_from (λ m. not m.is_static && not m.is_private) (λ m. m.name) (λ m. m.descriptor) 0 methods
+
+-- the entries in the order of names and descriptors; those of one name and descriptor stand as they stood
+pub record IsIndex (entries sorted : List Entry) : Type 0 where
+  pub ascending : IsSortedByKey key_of key_cmp sorted
+  pub same : (name descriptor : List ℕ) → filter (is_of name descriptor) sorted ≡ filter (is_of name descriptor) entries
 
 -- the indexes of a class's members
 pub record IsIndexed (k : ClassInfo) (m : Members) : Type 0 where
-  pub fields : IsIndex (field_codes k.fields) m.fields.buckets.items
-  pub methods : IsIndex (method_codes k.methods) m.methods.buckets.items
+  pub fields : IsIndex (field_entries k.fields) m.fields.entries.items
+  pub methods : IsIndex (method_entries k.methods) m.methods.entries.items
+  pub overriding : IsIndex (overriding_entries k.methods) m.overriding.entries.items
 
 -- those of all classes, in order
 abbrev pub AreIndexed : List ClassInfo → List Members → Type 0

@@ -6,7 +6,6 @@ ghost use Rattle.th_base.specs.IdSet.{has};
 ghost use Rattle.th_base.specs.Subtype.{class_named, is_class_subtype, described_type, is_type_subtype, is_subtype};
 
 use crate::ancestors::{Ancestors, ancestors_of};
-use crate::index::code_of;
 use crate::members::{Members, field_along, members_of, method_along, method_in, overriding_along};
 use crate::names::names_of;
 use crate::numbered::{Place, field_numbers, method_numbers, places_of};
@@ -20,9 +19,9 @@ use std::marker::Model;
 /// The class hierarchy of a program. Contracts see it as the list of its classes, each named by its
 /// place in it.
 ///
-/// It keeps for each class what stands above it and an index of its members, and tables of names and
-/// numbers. No look-up takes memory, and none costs more where a class declares more members:
-/// `docs/HIERARCHY.md` has the cost of each.
+/// It keeps for each class what stands above it and indexes of its members, and tables of names and
+/// numbers. No look-up takes memory. A class is asked for a member by a binary search, whatever the
+/// names are: `docs/HIERARCHY.md` has the cost of each look-up.
 #[derive(Debug, Drop)]
 pub struct Hierarchy {
     classes: Seq<ClassInfo>,
@@ -189,13 +188,11 @@ impl Hierarchy {
         ensures { option_copied result ≡ declared_method self.now name.now descriptor.now class.0 }
     {
         let at = class.0 as usize;
-        let code = code_of(name, descriptor);
         method_in(
             &self.classes.as_slice()[at],
             &self.members[at],
             name,
             descriptor,
-            code,
         )
     }
 

@@ -1,83 +1,64 @@
-// An index of members by name and descriptor: places in buckets, by a number made of the bytes.
-ghost use Rattle.std.specs.Prelude.{◌≡◌, ◌<◌, ◌%◌, ℕ, ◌∷◌, [], ◌++◌, length, slice_set, IfOk, OnOk};
-ghost use Rattle.std.specs.List.{slice_index_or};
-ghost use Rattle.th_base.specs.MemberIndex.{IsIndex, code_along, code_of};
+// An index of members by name and descriptor: their places, in the order of these.
+ghost use Rattle.std.specs.Prelude.{◌≡◌, find, IfOk};
+ghost use Rattle.std.specs.List.Sorted.{IsSortedByKey};
+ghost use Rattle.std.specs.Option.{option_map};
+ghost use Rattle.th_base.specs.MemberIndex.{IsIndex, is_of, key_cmp, key_of};
 
-use crate::Seq;
-use std::alloc::{AllocError, Global};
+use crate::Text;
+use std::alloc::AllocError;
+use std::cmp::Ordering;
 
-// What the number of a name and a descriptor begins with.
-pub(crate) const START: u64 = 0xcbf2_9ce4_8422_2325;
+// A member's name and descriptor, and its place among the members of its class.
+#[derive(Debug, Drop)]
+pub(crate) struct Entry {
+    pub(crate) name: Text,
+    pub(crate) descriptor: Text,
+    pub(crate) place: usize,
+}
 
-// By what it is multiplied at each byte.
-pub(crate) const FACTOR: u64 = 0x0000_0100_0000_01b3;
-
-// The places of a list's items, each in the bucket of its number. There are as many buckets as items.
+// Entries in the order of names and descriptors; those of one name and descriptor by place.
 #[derive(Debug, Drop)]
 pub(crate) struct Index {
-    buckets: Vec<Seq<usize>>,
-}
-
-// The number of a name and a descriptor.
-pub(crate) fn code_of(name: &[u8], descriptor: &[u8]) -> u64
-    ensures { result ≡ code_of name.now descriptor.now }
-{
-    code_along(code_along(START, name), descriptor)
-}
-
-// The number of a text's bytes, from a number on.
-fn code_along(start: u64, bytes: &[u8]) -> u64
-    ensures { result ≡ code_along start bytes.now }
-{
-    let mut code = start;
-    for byte in bytes {
-        code = (code ^ u64::from(*byte)).wrapping_mul(FACTOR);
-    }
-    code
+    entries: Vec<Entry>,
 }
 
 impl Index {
-    // The index of items with these numbers.
-    pub(crate) fn new(alloc: Global, codes: &[u64]) -> Result<Index, AllocError>
-        ensures { IfOk result (λ index. IsIndex codes.now index.buckets.items) }
+    // The index of these entries.
+    pub(crate) fn new(mut entries: Vec<Entry>) -> Result<Index, AllocError>
+        ensures { IfOk result (λ index. IsIndex entries.items index.entries.items) }
     {
-        let mut buckets = empty_buckets(alloc, codes.len())?;
-        for (place, code) in codes.iter().enumerate() {
-            let bucket = (*code % codes.len() as u64) as usize;
-            put(&mut buckets, bucket, place)?;
-        }
-        Ok(Index { buckets })
+        entries.sort_by(by_key)?;
+        Ok(Index { entries })
     }
 
-    // The places of the bucket into which a number falls.
-    pub(crate) fn places(&self, code: u64) -> &[usize]
-        ensures none { length self.now.buckets.items ≡ 0 → result.now ≡ [] }
-        ensures some { 0 < length self.now.buckets.items → result.now ≡ slice_index_or self.now.buckets.items (code % length self.now.buckets.items) [] }
+    // The place of the first entry of this name and descriptor.
+    pub(crate) fn first(&self, name: &[u8], descriptor: &[u8]) -> Option<usize>
+        requires { IsSortedByKey key_of key_cmp self.now.entries.items }
+        ensures { result ≡ option_map (λ e. e.place) (find (is_of name.now descriptor.now) self.now.entries.items) }
     {
-        if self.buckets.is_empty() {
-            return &[];
+        let entries = self.entries.as_slice();
+        let at = entries.partition_point(|entry| compare(entry, name, descriptor).is_lt());
+        let entry = entries.get(at)?;
+        if compare(entry, name, descriptor).is_eq() {
+            return Some(entry.place);
         }
-        let bucket = (code % self.buckets.len() as u64) as usize;
-        self.buckets[bucket].as_slice()
+        None
     }
 }
 
-// So many empty buckets.
-fn empty_buckets(alloc: Global, count: usize) -> Result<Vec<Seq<usize>>, AllocError>
-    ensures len { IfOk result (λ buckets. length buckets.items ≡ count) }
-    ensures empty { IfOk result (λ buckets. (b : ℕ) → slice_index_or buckets.items b [] ≡ []) }
+// How an entry's name and descriptor stand to these.
+fn compare(entry: &Entry, name: &[u8], descriptor: &[u8]) -> Ordering
+    ensures { result ≡ key_cmp (key_of entry.now) (name.now, descriptor.now) }
 {
-    let mut buckets = Vec::new(alloc);
-    for _ in 0..count {
-        buckets.push(Seq::new(alloc))?;
+    match entry.name.as_bytes().cmp(name) {
+        Ordering::Equal => entry.descriptor.as_bytes().cmp(descriptor),
+        other => other,
     }
-    Ok(buckets)
 }
 
-// Puts a place at the end of a bucket.
-fn put(buckets: &mut Vec<Seq<usize>>, bucket: usize, place: usize) -> Result<(), AllocError>
-    requires { bucket < length buckets.old.items }
-    ensures { OnOk result (buckets.new.items ≡ slice_set buckets.old.items bucket (slice_index_or buckets.old.items bucket [] ++ place ∷ [])) }
+// How two entries stand by name and descriptor.
+fn by_key(left: &Entry, right: &Entry) -> Ordering
+    ensures { result ≡ key_cmp (key_of left.now) (key_of right.now) }
 {
-    buckets[bucket].push(place)
+    compare(left, right.name.as_bytes(), right.descriptor.as_bytes())
 }

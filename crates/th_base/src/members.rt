@@ -1,20 +1,21 @@
 // The members that a class declares, found by name and descriptor, and look-ups along a list of classes.
-ghost use Rattle.std.specs.Prelude.{◌≡◌, ◌<◌, ◌==◌, ◌&&◌, ℕ, not, length, map, find, true, IfOk};
+ghost use Rattle.std.specs.Prelude.{◌≡◌, ◌<◌, ◌&&◌, ℕ, not, length, find, true, IfOk};
 ghost use Rattle.std.specs.Option.{option_copied, option_map};
 ghost use Rattle.std.specs.Str.{bytes_eq};
 ghost use Rattle.th_base.specs.Hierarchy.{first_field, first_method, overriding_along as overriding_method_along};
 ghost use Rattle.th_base.specs.IdSet.{has};
-ghost use Rattle.th_base.specs.MemberIndex.{IsIndex, AreIndexed, code_of, field_codes, method_codes};
+ghost use Rattle.th_base.specs.MemberIndex.{IsIndex, AreIndexed, entry_of, field_entries, method_entries, overriding_entries};
 
-use crate::index::{Index, code_of};
-use crate::{ClassId, ClassInfo, FieldInfo, MethodInfo};
+use crate::index::{Entry, Index};
+use crate::{ClassId, ClassInfo, FieldInfo, MethodInfo, Text};
 use std::alloc::{AllocError, Global};
 
-// The indexes of a class's members.
+// The indexes of a class's fields, of its methods, and of its instance methods that aren't private.
 #[derive(Debug, Drop)]
 pub(crate) struct Members {
     pub(crate) fields: Index,
     pub(crate) methods: Index,
+    pub(crate) overriding: Index,
 }
 
 // The indexes of all classes, in order.
@@ -23,127 +24,119 @@ pub(crate) fn members_of(alloc: Global, classes: &[ClassInfo]) -> Result<Vec<Mem
 {
     let mut members = Vec::new(alloc);
     for class in classes {
-        let fields = Index::new(
-            alloc,
-            field_codes(alloc, class.fields.as_slice())?.as_slice(),
-        )?;
-        let methods = Index::new(
-            alloc,
-            method_codes(alloc, class.methods.as_slice())?.as_slice(),
-        )?;
-        members.push(Members { fields, methods })?;
+        let fields = Index::new(field_entries(alloc, class.fields.as_slice())?)?;
+        let methods = Index::new(method_entries(alloc, class.methods.as_slice())?)?;
+        let overriding = Index::new(overriding_entries(alloc, class.methods.as_slice())?)?;
+        members.push(Members {
+            fields,
+            methods,
+            overriding,
+        })?;
     }
     Ok(members)
 }
 
-// The numbers by which fields are put into an index.
-fn field_codes(alloc: Global, fields: &[FieldInfo]) -> Result<Vec<u64>, AllocError>
-    ensures { IfOk result (λ codes. codes.items ≡ field_codes fields.now) }
+// The entries of fields, in order.
+fn field_entries(alloc: Global, fields: &[FieldInfo]) -> Result<Vec<Entry>, AllocError>
+    ensures { IfOk result (λ entries. entries.items ≡ field_entries fields.now) }
 {
-    let mut codes = Vec::new(alloc);
-    for field in fields {
-        codes.push(code_of(field.name.as_bytes(), field.descriptor.as_bytes()))?;
+    let mut entries = Vec::new(alloc);
+    for (place, field) in fields.iter().enumerate() {
+        let entry = entry_of(alloc, &field.name, &field.descriptor, place)?;
+        entries.push(entry)?;
     }
-    Ok(codes)
+    Ok(entries)
 }
 
-// The numbers by which methods are put into an index.
-fn method_codes(alloc: Global, methods: &[MethodInfo]) -> Result<Vec<u64>, AllocError>
-    ensures { IfOk result (λ codes. codes.items ≡ method_codes methods.now) }
+// The entries of methods, in order.
+fn method_entries(alloc: Global, methods: &[MethodInfo]) -> Result<Vec<Entry>, AllocError>
+    ensures { IfOk result (λ entries. entries.items ≡ method_entries methods.now) }
 {
-    let mut codes = Vec::new(alloc);
-    for method in methods {
-        codes.push(code_of(method.name.as_bytes(), method.descriptor.as_bytes()))?;
+    let mut entries = Vec::new(alloc);
+    for (place, method) in methods.iter().enumerate() {
+        let entry = entry_of(alloc, &method.name, &method.descriptor, place)?;
+        entries.push(entry)?;
     }
-    Ok(codes)
+    Ok(entries)
 }
 
-// Whether a field has this name and descriptor.
-fn is_field(field: &FieldInfo, name: &[u8], descriptor: &[u8]) -> bool
-    ensures { result ≡ (bytes_eq field.now.name name.now && bytes_eq field.now.descriptor descriptor.now) }
+// The entries of the instance methods that aren't private, in order.
+fn overriding_entries(alloc: Global, methods: &[MethodInfo]) -> Result<Vec<Entry>, AllocError>
+    ensures { IfOk result (λ entries. entries.items ≡ overriding_entries methods.now) }
 {
-    field.name.as_bytes() == name && field.descriptor.as_bytes() == descriptor
+    let mut entries = Vec::new(alloc);
+    for (place, method) in methods.iter().enumerate() {
+        if is_overriding(method) {
+            let entry = entry_of(alloc, &method.name, &method.descriptor, place)?;
+            entries.push(entry)?;
+        }
+    }
+    Ok(entries)
 }
 
-// Whether a method has this name and descriptor.
-fn is_method(method: &MethodInfo, name: &[u8], descriptor: &[u8]) -> bool
-    ensures { result ≡ (bytes_eq method.now.name name.now && bytes_eq method.now.descriptor descriptor.now) }
+// The entry of a member. It shares the bytes of its texts.
+fn entry_of(
+    alloc: Global,
+    name: &Text,
+    descriptor: &Text,
+    place: usize,
+) -> Result<Entry, AllocError>
+    ensures { IfOk result (λ entry. entry ≡ entry_of name.now descriptor.now place) }
 {
-    method.name.as_bytes() == name && method.descriptor.as_bytes() == descriptor
+    Ok(Entry {
+        name: name.copy(alloc)?,
+        descriptor: descriptor.copy(alloc)?,
+        place,
+    })
 }
 
-// Whether a method has this name and descriptor, and is an instance method that isn't private.
-fn is_overriding(method: &MethodInfo, name: &[u8], descriptor: &[u8]) -> bool
-    ensures { result ≡ ((bytes_eq method.now.name name.now && bytes_eq method.now.descriptor descriptor.now) && (not method.now.is_static && not method.now.is_private)) }
+// Whether a method is an instance method that isn't private.
+fn is_overriding(method: &MethodInfo) -> bool
+    ensures { result ≡ (not method.now.is_static && not method.now.is_private) }
 {
-    is_method(method, name, descriptor) && (!method.is_static && !method.is_private)
+    !method.is_static && !method.is_private
 }
 
-// The first field of this name and descriptor, which have this number, that a class declares.
+// The first field of this name and descriptor that a class declares.
 pub(crate) fn field_in<'a>(
     class: &'a ClassInfo,
     members: &Members,
     name: &[u8],
     descriptor: &[u8],
-    code: u64,
 ) -> Option<&'a FieldInfo>
-    requires code { code ≡ code_of name.now descriptor.now }
-    requires index { IsIndex (field_codes class.now.fields) members.now.fields.buckets.items }
+    requires { IsIndex (field_entries class.now.fields) members.now.fields.entries.items }
     ensures { option_copied result ≡ find (λ f. bytes_eq f.name name.now && bytes_eq f.descriptor descriptor.now) class.now.fields }
 {
-    let fields = class.fields.as_slice();
-    for place in members.fields.places(code) {
-        let field = &fields[*place];
-        if is_field(field, name, descriptor) {
-            return Some(field);
-        }
-    }
-    None
+    let place = members.fields.first(name, descriptor)?;
+    class.fields.as_slice().get(place)
 }
 
-// The first method of this name and descriptor, which have this number, that a class declares.
+// The first method of this name and descriptor that a class declares.
 pub(crate) fn method_in<'a>(
     class: &'a ClassInfo,
     members: &Members,
     name: &[u8],
     descriptor: &[u8],
-    code: u64,
 ) -> Option<&'a MethodInfo>
-    requires code { code ≡ code_of name.now descriptor.now }
-    requires index { IsIndex (method_codes class.now.methods) members.now.methods.buckets.items }
+    requires { IsIndex (method_entries class.now.methods) members.now.methods.entries.items }
     ensures { option_copied result ≡ find (λ m. bytes_eq m.name name.now && bytes_eq m.descriptor descriptor.now) class.now.methods }
 {
-    let methods = class.methods.as_slice();
-    for place in members.methods.places(code) {
-        let method = &methods[*place];
-        if is_method(method, name, descriptor) {
-            return Some(method);
-        }
-    }
-    None
+    let place = members.methods.first(name, descriptor)?;
+    class.methods.as_slice().get(place)
 }
 
-// The first instance method of this name and descriptor, which have this number, that a class declares
-// and that isn't private.
+// The first instance method of this name and descriptor that a class declares and that isn't private.
 pub(crate) fn overriding_in<'a>(
     class: &'a ClassInfo,
     members: &Members,
     name: &[u8],
     descriptor: &[u8],
-    code: u64,
 ) -> Option<&'a MethodInfo>
-    requires code { code ≡ code_of name.now descriptor.now }
-    requires index { IsIndex (method_codes class.now.methods) members.now.methods.buckets.items }
+    requires { IsIndex (overriding_entries class.now.methods) members.now.overriding.entries.items }
     ensures { option_copied result ≡ find (λ m. (bytes_eq m.name name.now && bytes_eq m.descriptor descriptor.now) && (not m.is_static && not m.is_private)) class.now.methods }
 {
-    let methods = class.methods.as_slice();
-    for place in members.methods.places(code) {
-        let method = &methods[*place];
-        if is_overriding(method, name, descriptor) {
-            return Some(method);
-        }
-    }
-    None
+    let place = members.overriding.first(name, descriptor)?;
+    class.methods.as_slice().get(place)
 }
 
 // Along a list of classes, the first that declares the field, and the field.
@@ -158,10 +151,9 @@ pub(crate) fn field_along<'a>(
     requires inside { (c : ℕ) → has order.now c ≡ true → c < length classes.now }
     ensures { option_map (λ found. (found.0.0, found.1.now)) result ≡ first_field classes.now name.now descriptor.now order.now }
 {
-    let code = code_of(name, descriptor);
     for class in order {
         let at = *class as usize;
-        if let Some(field) = field_in(&classes[at], &members[at], name, descriptor, code) {
+        if let Some(field) = field_in(&classes[at], &members[at], name, descriptor) {
             return Some((ClassId(*class), field));
         }
     }
@@ -180,10 +172,9 @@ pub(crate) fn method_along<'a>(
     requires inside { (c : ℕ) → has order.now c ≡ true → c < length classes.now }
     ensures { option_map (λ found. (found.0.0, found.1.now)) result ≡ first_method classes.now name.now descriptor.now order.now }
 {
-    let code = code_of(name, descriptor);
     for class in order {
         let at = *class as usize;
-        if let Some(method) = method_in(&classes[at], &members[at], name, descriptor, code) {
+        if let Some(method) = method_in(&classes[at], &members[at], name, descriptor) {
             return Some((ClassId(*class), method));
         }
     }
@@ -202,10 +193,9 @@ pub(crate) fn overriding_along<'a>(
     requires inside { (c : ℕ) → has order.now c ≡ true → c < length classes.now }
     ensures { option_copied result ≡ option_map (λ found. found.1) (overriding_method_along classes.now name.now descriptor.now order.now) }
 {
-    let code = code_of(name, descriptor);
     for class in order {
         let at = *class as usize;
-        if let Some(method) = overriding_in(&classes[at], &members[at], name, descriptor, code) {
+        if let Some(method) = overriding_in(&classes[at], &members[at], name, descriptor) {
             return Some(method);
         }
     }

@@ -16,8 +16,8 @@ bounds-members-at c =
     let inside : at < length c.args.classes.now = c.requires.inside at (has_at c.args.order.now at c.loop-class.class-index c.loop-class-test.true refl) in
     omega (arith, indexed_length c.args.classes.now c.args.members.now c.requires.indexed)
 
-pub field_in-requires-clause-index : goal.field_in-requires-clause-index
-field_in-requires-clause-index c =
+pub field_in-requires : goal.field_in-requires
+field_in-requires c =
     let at = get_or c.args.order.now c.loop-class.class-index 0 in
     let inside : at < length c.args.classes.now = c.requires.inside at (has_at c.args.order.now at c.loop-class.class-index c.loop-class-test.true refl) in
     (indexed_at c.args.classes.now c.args.members.now at c.index-classes-at.result c.index-members-at.result c.requires.indexed inside c.index-classes-at.is c.index-members-at.is).fields

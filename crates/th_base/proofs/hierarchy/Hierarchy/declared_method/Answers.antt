@@ -12,8 +12,8 @@ index-requires c =
     let inside : at < length classes = omega (arith, ap length c.self.view_is, c.requires) in
     omega (arith, c.self.inside.members.ok.0, indexed_length classes c.self.inside.members.items c.self.invariant.indexed)
 
-pub method_in-requires-clause-index : goal.method_in-requires-clause-index
-method_in-requires-clause-index c =
+pub method_in-requires : goal.method_in-requires
+method_in-requires c =
     let classes = c.self.inside.classes in
     let at = c.args.class.0 in
     let inside : at < length classes = omega (arith, ap length c.self.view_is, c.requires) in

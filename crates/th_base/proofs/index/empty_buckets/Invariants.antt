@@ -1,9 +1,0 @@
-use Rattle.std.proofs.Common.{◌≡◌, ℕ, length, []}
-use Rattle.std.specs.List.{slice_index_or}
-use Rattle.th_base.proofs.index.empty_buckets.Given as goal
-
-abbrev pub invariant-loop : goal.invariant-loop
-invariant-loop l = record {
-  as_many : length l.buckets.items ≡ l.counter;
-  empty : (b : ℕ) → slice_index_or l.buckets.items b [] ≡ [];
-}
