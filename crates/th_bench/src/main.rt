@@ -7,6 +7,7 @@
 
 mod classes;
 mod inclusions;
+mod reading;
 mod refutations;
 mod sets;
 mod stores;
@@ -16,7 +17,7 @@ use std::rt::Env;
 use std::{env, io};
 
 // The workloads that count.
-const WORKLOADS: [&str; 10] = [
+const WORKLOADS: [&str; 13] = [
     "merges",
     "fields",
     "subclasses",
@@ -27,6 +28,9 @@ const WORKLOADS: [&str; 10] = [
     "few_facts",
     "some_facts",
     "worst_facts",
+    "methods",
+    "instructions",
+    "entries",
 ];
 
 // What a workload counted; none where no workload has the name.
@@ -42,6 +46,9 @@ fn counted(alloc: Global, name: &str, size: u32) -> Result<Option<u64>, AllocErr
         "few_facts" => Ok(Some(refutations::few_facts(alloc, size)?)),
         "some_facts" => Ok(Some(refutations::some_facts(alloc, size)?)),
         "worst_facts" => Ok(Some(refutations::worst_facts(alloc, size)?)),
+        "methods" => Ok(Some(reading::methods(alloc, size)?)),
+        "instructions" => Ok(Some(reading::instructions(alloc, size)?)),
+        "entries" => Ok(Some(reading::entries(alloc, size)?)),
         _ => Ok(None),
     }
 }

@@ -1,5 +1,11 @@
-// A class file with one long name that many instructions refer to.
+// Class files made by repetition: one with a long name that many instructions refer to, one with many
+// methods, and one with many entries in its constant pool.
 use std::alloc::{AllocError, Global};
+
+// What each class file begins with, and the version of Java SE 8 (Java specification 4.1).
+const MAGIC: u32 = 0xcafe_babe;
+
+const MAJOR: u16 = 52;
 
 // How many stores a method has at most: its code is shorter than 65,536 bytes (Java specification
 // 4.7.3).
@@ -129,6 +135,22 @@ fn put_methods(file: &mut Bytes, stores: u32, methods: u16) -> Result<(), AllocE
     Ok(())
 }
 
+// The front of a class file of an Activity with one static field, up to its methods.
+fn front(alloc: Global, field: &[u8], methods: u16) -> Result<Bytes, AllocError> {
+    let mut file = Bytes {
+        bytes: Vec::new(alloc),
+    };
+    file.u4(MAGIC)?;
+    file.u2(0)?;
+    file.u2(MAJOR)?;
+    file.u2(POOL_END.wrapping_add(methods))?;
+    put_pool(&mut file, field, methods)?;
+    for number in [0x21, THIS_CLASS, SUPER_CLASS, 0, 1, 9, FIELD, FIELD_TYPE, 0] {
+        file.u2(number)?;
+    }
+    Ok(file)
+}
+
 // A class file of an Activity with a static field whose name has so many bytes, up to 65,535, and
 // with half as many stores into it.
 pub(crate) fn class_file(alloc: Global, size: u32) -> Result<Vec<u8>, AllocError> {
@@ -136,19 +158,55 @@ pub(crate) fn class_file(alloc: Global, size: u32) -> Result<Vec<u8>, AllocError
     let stores = length / 2;
     let methods = stores.div_ceil(MOST_STORES) as u16;
     let name = vec![in alloc; b'f'; length as usize]?;
+    let mut file = front(alloc, name.as_slice(), methods)?;
+    put_methods(&mut file, stores, methods)?;
+    file.u2(0)?;
+    let Bytes { bytes } = file;
+    Ok(bytes)
+}
+
+// A class file of an Activity with so many methods, each with so many stores into its static field.
+pub(crate) fn methods_file(
+    alloc: Global,
+    methods: u16,
+    stores: u32,
+) -> Result<Vec<u8>, AllocError> {
+    let mut file = front(alloc, b"last", methods)?;
+    file.u2(methods.wrapping_add(1))?;
+    put_method(&mut file, INIT, 0xb7, INIT_REF, 1)?;
+    for method in 0..methods {
+        put_method(
+            &mut file,
+            POOL_END.wrapping_add(method),
+            0xb3,
+            FIELD_REF,
+            stores,
+        )?;
+    }
+    file.u2(0)?;
+    let Bytes { bytes } = file;
+    Ok(bytes)
+}
+
+// A class file of an Activity without members, with so many more texts in its constant pool.
+pub(crate) fn entries_file(alloc: Global, entries: u16) -> Result<Vec<u8>, AllocError> {
     let mut file = Bytes {
         bytes: Vec::new(alloc),
     };
-    file.u4(0xcafe_babe)?;
+    file.u4(MAGIC)?;
     file.u2(0)?;
-    file.u2(52)?;
-    file.u2(POOL_END.wrapping_add(methods))?;
-    put_pool(&mut file, name.as_slice(), methods)?;
-    for number in [0x21, THIS_CLASS, SUPER_CLASS, 0, 1, 9, FIELD, FIELD_TYPE, 0] {
+    file.u2(MAJOR)?;
+    file.u2(entries.wrapping_add(5))?;
+    file.text(b"Act")?;
+    file.entry(7, 1, None)?;
+    file.text(b"android/app/Activity")?;
+    file.entry(7, 3, None)?;
+    for _ in 0..entries {
+        file.text(b"Landroid/os/Bundle;")?;
+    }
+    for number in [0x21, THIS_CLASS, SUPER_CLASS, 0, 0, 0, 0] {
         file.u2(number)?;
     }
-    put_methods(&mut file, stores, methods)?;
-    file.u2(0)?;
     let Bytes { bytes } = file;
     Ok(bytes)
 }
