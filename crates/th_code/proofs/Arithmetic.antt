@@ -1,19 +1,17 @@
 -- Arithmetic, opcode by opcode.
-use Rattle.std.proofs.Common.{◌≡◌, ◌≢◌, ℕ, ◌+◌, ◌≤◌, ◌&&◌, ◌||◌, not, Bool, true, false, List, [], ◌∷◌, Result, Ok, Err, refl, sym, ap, ◌∙◌, arith}
-use Rattle.std.specs.Prelude.{Option, Some, None, ◌==◌, nat_le}
-use Rattle.std.specs.Int.{w8, w16, w32, cast_signed}
+use Rattle.std.proofs.Common.{◌≡◌, ◌≢◌, ℕ, ◌≤◌, ◌||◌, not, Bool, true, false, List, [], ◌∷◌, Ok, Err, refl, ◌∙◌, arith}
+use Rattle.std.specs.Prelude.{◌==◌}
+use Rattle.std.specs.Int.{w8, cast_signed}
 use Rattle.std.specs.List.{list_any}
-use Rattle.th_syntax.specs.declared.instr.Instr.{Instr}
 use Rattle.th_syntax.specs.declared.instr.Instr.TheVariants.{Inc}
-use Rattle.th_syntax.specs.Forms.{Form, whole, ◌>>=◌, Placed, Found}
-use Rattle.th_syntax.specs.ClassBytes.{Pool, u1, u2, u4}
-use Rattle.th_syntax.specs.CodeBytes.{Spelled, plain, load, load_wide, rows}
-use Rattle.th_code.specs.Judged.{operand, judged, said, operands_of}
-use Rattle.th_code.specs.Opcodes.{is_within, small_constants, small_locals, array_access_codes, stack_move_codes, arithmetic_codes, conversion_codes}
+use Rattle.th_syntax.specs.Forms.{◌>>=◌, Placed}
+use Rattle.th_syntax.specs.ClassBytes.{Pool, u1}
+use Rattle.th_syntax.specs.CodeBytes.{plain, rows}
+use Rattle.th_code.specs.Judged.{operand, judged, operands_of}
+use Rattle.th_code.specs.Opcodes.{stack_move_codes, arithmetic_codes, conversion_codes}
 use Rattle.th_code.proofs.Operands.{judged_after, judged_stops, judged_plain}
 use Rattle.th_code.proofs.Opcodes.{not_it}
 use Rattle.th_code.proofs.Rows.{covers, all_in, sieved, refused_opcode, bare_read}
-use Rattle.th_code.proofs.Loaded.{load_ok, load_err, wide_ok, wide_err}
 
 pub row_132 : (pool : Pool) (pc at : ℕ) (bytes : List ℕ) (p x b : ℕ) (u : List ℕ) (q y c : ℕ) (w : List ℕ) → operand u1 at bytes ≡ Ok (record { at = p; value = x }, b, u) → operand u1 b u ≡ Ok (record { at = q; value = y }, c, w) → judged (operands_of pool 132 pc) at bytes ≡ Ok (Inc x (cast_signed w8 y), c, w)
 unfolding operands_of

@@ -1,15 +1,15 @@
 -- Constants, opcode by opcode.
-use Rattle.std.proofs.Common.{◌≡◌, ◌≢◌, ℕ, ◌+◌, ◌≤◌, ◌&&◌, ◌||◌, not, Bool, true, false, List, [], ◌∷◌, Result, Ok, Err, refl, sym, ap, ◌∙◌, arith}
-use Rattle.std.specs.Prelude.{Option, Some, None, ◌==◌, nat_le}
-use Rattle.std.specs.Int.{w8, w16, w32, cast_signed}
+use Rattle.std.proofs.Common.{◌≡◌, ◌≢◌, ℕ, ◌≤◌, ◌||◌, not, Bool, true, false, List, [], ◌∷◌, Ok, Err, refl, ◌∙◌, arith}
+use Rattle.std.specs.Prelude.{◌==◌}
+use Rattle.std.specs.Int.{w8, w16, cast_signed}
 use Rattle.std.specs.List.{list_any}
 use Rattle.th_syntax.specs.declared.instr.Instr.{Instr}
-use Rattle.th_syntax.specs.declared.instr.Instr.TheVariants.{Nop, Null, Int, Long}
-use Rattle.th_syntax.specs.Forms.{Form, whole, ◌>>=◌, Placed, Found}
-use Rattle.th_syntax.specs.ClassBytes.{Pool, u1, u2, u4}
-use Rattle.th_syntax.specs.CodeBytes.{Spelled, plain, load, load_wide, rows}
+use Rattle.th_syntax.specs.declared.instr.Instr.TheVariants.{Nop, Null, Int}
+use Rattle.th_syntax.specs.Forms.{Placed}
+use Rattle.th_syntax.specs.ClassBytes.{Pool, u1, u2}
+use Rattle.th_syntax.specs.CodeBytes.{plain, load, load_wide, rows}
 use Rattle.th_code.specs.Judged.{operand, judged, said, operands_of}
-use Rattle.th_code.specs.Opcodes.{is_within, small_constants, small_locals, array_access_codes, stack_move_codes, arithmetic_codes, conversion_codes}
+use Rattle.th_code.specs.Opcodes.{is_within, small_constants}
 use Rattle.th_code.proofs.Operands.{judged_after, judged_stops, judged_plain}
 use Rattle.th_code.proofs.Opcodes.{not_it}
 use Rattle.th_code.proofs.Rows.{covers, all_in, sieved, refused_opcode, bare_read}

@@ -1,20 +1,18 @@
 -- Branches, switches and returns, opcode by opcode.
-use Rattle.std.proofs.Common.{◌≡◌, ◌≢◌, ℕ, zero, suc, ◌+◌, ◌-◌, ◌<◌, subst, ◌≤◌, ◌&&◌, ◌||◌, not, Bool, true, false, List, [], ◌∷◌, Result, Ok, Err, refl, sym, ap, ◌∙◌, arith}
-use Rattle.std.specs.Prelude.{Option, Some, None, ◌==◌, nat_le}
-use Rattle.std.specs.Int.{w8, w16, w32, cast_signed}
+use Rattle.std.proofs.Common.{◌≡◌, ◌≢◌, ℕ, zero, suc, ◌+◌, ◌-◌, ◌<◌, subst, ◌≤◌, ◌||◌, not, Bool, true, false, List, [], ◌∷◌, Result, Ok, Err, refl, ap, ◌∙◌, arith}
+use Rattle.std.specs.Prelude.{◌==◌}
+use Rattle.std.specs.Int.{w16, cast_signed}
 use Rattle.std.specs.List.{list_any}
 use Rattle.th_syntax.specs.declared.instr.Instr.{Instr}
 use Rattle.th_syntax.specs.declared.instr.Instr.TheVariants.{IReturn, LReturn, AReturn, Return, IfZero, IfInts, IfSame, IfOther, Goto}
 use Rattle.th_base.specs.declared.operation.Relation.TheVariants.{Eq, Ne, Lt, Ge, Gt, Le}
-use Rattle.th_syntax.specs.Forms.{Form, whole, ◌>>=◌, Placed, Found}
-use Rattle.th_syntax.specs.ClassBytes.{Pool, u1, u2, u4}
-use Rattle.th_syntax.specs.CodeBytes.{Spelled, plain, load, load_wide, rows, among, table_switch, lookup_switch, target, jump}
-use Rattle.th_code.specs.Judged.{operand, judged, said, operands_of}
-use Rattle.th_code.specs.Opcodes.{is_within, small_constants, small_locals, array_access_codes, stack_move_codes, arithmetic_codes, conversion_codes}
-use Rattle.th_code.proofs.Operands.{judged_after, judged_stops, judged_plain}
+use Rattle.th_syntax.specs.Forms.{Form, Placed, Found}
+use Rattle.th_syntax.specs.ClassBytes.{Pool, u2}
+use Rattle.th_syntax.specs.CodeBytes.{Spelled, plain, rows, table_switch, lookup_switch, target, jump}
+use Rattle.th_code.specs.Judged.{operand, judged, operands_of}
+use Rattle.th_code.proofs.Operands.{judged_stops, judged_plain}
 use Rattle.th_code.proofs.Opcodes.{not_it}
-use Rattle.th_code.proofs.Rows.{covers, all_in, sieved, refused_opcode, bare_read}
-use Rattle.th_code.proofs.Loaded.{load_ok, load_err, wide_ok, wide_err}
+use Rattle.th_code.proofs.Rows.{covers, all_in, sieved, refused_opcode}
 
 pub branch_read : (pool : Pool) (pc at : ℕ) (bytes : List ℕ) (code p x b : ℕ) (u : List ℕ) (t : ℕ) (i : Instr) → operand u2 at bytes ≡ Ok (record { at = p; value = x }, b, u) → t ≡ target pc (cast_signed w16 x)
     → ((pool : Pool) (pc at : ℕ) (bytes : List ℕ) (x : Placed ℕ) (b : ℕ) (u : List ℕ) → operand u2 at bytes ≡ Ok (x, b, u) → t ≡ target pc (cast_signed w16 x.value) → judged (operands_of pool code pc) at bytes ≡ Ok (i, b, u)) → judged (operands_of pool code pc) at bytes ≡ Ok (i, b, u)

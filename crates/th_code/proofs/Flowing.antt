@@ -1,7 +1,7 @@
 -- From the instructions to the flaws of a code array.
-use Rattle.std.proofs.Common.{◌≡◌, ℕ, ◌+◌, ◌<◌, Bool, true, false, ◌&&◌, ◌||◌, cond, eqb, List, [], ◌∷◌, ◌++◌, length, Err, refl, sym, ap, subst, ◌∙◌, arith}
+use Rattle.std.proofs.Common.{◌≡◌, ℕ, ◌+◌, ◌<◌, Bool, true, false, ◌&&◌, ◌||◌, cond, List, [], ◌∷◌, ◌++◌, length, Err, refl, sym, ap, subst, ◌∙◌}
 use Rattle.std.specs.Prelude.{Option, Some, None, ◌==◌}
-use Rattle.std.specs.List.{filter_map, list_any, list_all}
+use Rattle.std.specs.List.{list_all}
 use Rattle.std.proofs.lemmas.Bool.{eq-eqb}
 use Rattle.th_syntax.specs.declared.cause.TheConstants as cause
 use Rattle.th_syntax.specs.declared.instr.Instr.{Instr}
@@ -9,7 +9,7 @@ use Rattle.th_syntax.specs.declared.refusal.Flaw.{Flaw}
 use Rattle.th_syntax.specs.Flaws.{flaw_at, unless, Ascend, IsFirst}
 use Rattle.th_syntax.specs.Flow.{leads_to}
 use Rattle.th_syntax.specs.ClassBytes.{Pool}
-use Rattle.th_syntax.specs.Decoding.{decoded, instrs_in, instr_flaw, is_start, offset_behind, flow_flaws_from, flow_flaws, or_else, flaws_in}
+use Rattle.th_syntax.specs.Decoding.{instrs_in, is_start, offset_behind, flow_flaws_from, flow_flaws, or_else, flaws_in}
 use Rattle.th_base.specs.declared.fail.Fail.{Fail}
 use Rattle.th_base.specs.declared.fail.Fail.TheVariants.{Refused, NoMemory}
 use Rattle.th_pool.specs.Gives.{IfRefused}

@@ -1,10 +1,10 @@
 -- What the pool gives, and the instruction that it makes.
-use Rattle.std.proofs.Common.{◌≡◌, ℕ, List, [], ◌∷◌, Result, Ok, Err, refl, sym, ap, ◌∙◌}
+use Rattle.std.proofs.Common.{◌≡◌, ℕ, List, [], ◌∷◌, Result, Ok, Err, ap}
 use Rattle.std.specs.Prelude.{Option, Some, None}
 use Rattle.th_syntax.specs.declared.cause.TheConstants as cause
 use Rattle.th_syntax.specs.declared.instr.Instr.{Instr}
-use Rattle.th_syntax.specs.Forms.{Form, whole, Found, read}
-use Rattle.th_syntax.specs.CodeBytes.{Spelled, checked, given}
+use Rattle.th_syntax.specs.Forms.{Found, read}
+use Rattle.th_syntax.specs.CodeBytes.{checked, given}
 use Rattle.th_code.specs.Judged.{judged, least_of, by_number, named}
 
 fine : {A : Type 0} (make : A → Instr) (x y : A) (numbers : List ℕ) (at : ℕ) (bytes : List ℕ) → by_number x (least_of numbers) ≡ Ok y → judged (checked (make x) numbers) at bytes ≡ Ok (make y, at, bytes)

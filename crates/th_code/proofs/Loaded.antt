@@ -1,5 +1,5 @@
 -- What the pool gives to the instructions that load a constant.
-use Rattle.std.proofs.Common.{◌≡◌, ℕ, Bool, true, false, List, Result, Ok, Err, refl, sym, ap, ◌∙◌}
+use Rattle.std.proofs.Common.{◌≡◌, ℕ, true, false, List, Result, Ok, Err, refl, ap}
 use Rattle.std.specs.Prelude.{Option, Some, None, ◌==◌, ℤ}
 use Rattle.std.specs.Option.{option_map, option_map_or, option_and_then}
 use Rattle.th_syntax.specs.declared.cause.TheConstants as cause

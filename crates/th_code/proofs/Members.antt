@@ -1,9 +1,6 @@
 -- Accesses of fields and calls, opcode by opcode.
-use Rattle.std.proofs.Common.{◌≡◌, ◌≢◌, ℕ, zero, suc, ◌+◌, ◌-◌, ◌<◌, subst, ◌≤◌, ◌&&◌, ◌||◌, not, Bool, true, false, List, [], ◌∷◌, Result, Ok, Err, refl, sym, ap, ◌∙◌, arith}
-use Rattle.std.specs.Prelude.{Option, Some, None, ◌==◌, nat_le}
-use Rattle.std.specs.Int.{w8, w16, w32, cast_signed}
-use Rattle.std.specs.List.{list_any}
-use Rattle.th_syntax.specs.declared.instr.Instr.{Instr}
+use Rattle.std.proofs.Common.{◌≡◌, ◌≢◌, ℕ, zero, suc, ◌+◌, ◌-◌, ◌<◌, subst, ◌≤◌, Bool, true, false, List, [], ◌∷◌, Ok, Err, sym, ap, ◌∙◌, arith}
+use Rattle.std.specs.Prelude.{◌==◌}
 use Rattle.th_syntax.specs.declared.instr.Instr.TheVariants.{GetStatic, PutStatic, GetField, PutField, InvokeVirtual, InvokeSpecial, InvokeStatic, InvokeInterface}
 use Rattle.th_syntax.specs.declared.cause.TheConstants as cause
 use Rattle.th_syntax.specs.declared.instr.MemberRef.{MemberRef}
@@ -12,15 +9,11 @@ use Rattle.th_base.specs.declared.fail.Fail.{Fail}
 use Rattle.th_base.specs.declared.fail.Fail.TheVariants.{Refused, NoMemory}
 use Rattle.th_code.specs.Kinds.{call_numbers}
 use Rattle.th_code.proofs.Giving.{given_ok, given_err}
-use Rattle.th_syntax.specs.Forms.{Form, whole, ◌>>=◌, Placed, Found}
-use Rattle.th_syntax.specs.ClassBytes.{Pool, u1, u2, u4}
-use Rattle.th_syntax.specs.CodeBytes.{Spelled, plain, load, load_wide, rows, given, checked, field_numbers, method_numbers, member_among, of_classes, of_interfaces, of_either, call}
-use Rattle.th_code.specs.Judged.{operand, judged, said, operands_of, least_of, by_number, named, Gets, Takes, as_read}
-use Rattle.th_code.specs.Opcodes.{is_within, small_constants, small_locals, array_access_codes, stack_move_codes, arithmetic_codes, conversion_codes}
-use Rattle.th_code.proofs.Operands.{judged_after, judged_stops, judged_plain}
-use Rattle.th_code.proofs.Opcodes.{not_it}
-use Rattle.th_code.proofs.Rows.{covers, all_in, sieved, refused_opcode, bare_read}
-use Rattle.th_code.proofs.Loaded.{load_ok, load_err, wide_ok, wide_err}
+use Rattle.th_syntax.specs.Forms.{◌>>=◌, Placed}
+use Rattle.th_syntax.specs.ClassBytes.{Pool, u1, u2}
+use Rattle.th_syntax.specs.CodeBytes.{given, checked, field_numbers, member_among, of_classes, of_interfaces, of_either, call}
+use Rattle.th_code.specs.Judged.{operand, judged, operands_of, named, Gets, Takes, as_read}
+use Rattle.th_code.proofs.Operands.{judged_after, judged_stops}
 
 pub row_178 : (pool : Pool) (pc at : ℕ) (bytes : List ℕ) (p x b : ℕ) (u : List ℕ) (m : MemberRef) → operand u2 at bytes ≡ Ok (record { at = p; value = x }, b, u) → named (field_numbers) (member_among pool (9 ∷ []) x) ≡ Ok m → judged (operands_of pool 178 pc) at bytes ≡ Ok (GetStatic m, b, u)
 unfolding operands_of call_numbers

@@ -5,7 +5,7 @@ use Rattle.std.specs.List.{list_any}
 use Rattle.std.specs.Option.{option_map, option_map_or, option_and_then}
 use Rattle.th_syntax.specs.declared.instr.MemberRef.{MemberRef}
 use Rattle.th_syntax.specs.ClassBytes.{Pool}
-use Rattle.th_syntax.specs.PoolChecks.{tag_at, member_of, tagged_member_of, class_of}
+use Rattle.th_syntax.specs.PoolChecks.{tag_at, member_of, tagged_member_of}
 use Rattle.th_syntax.specs.CodeBytes.{member_among}
 use Rattle.th_code.specs.Judged.{least_of, by_number, named}
 

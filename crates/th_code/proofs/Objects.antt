@@ -1,23 +1,19 @@
 -- Objects and arrays, opcode by opcode.
-use Rattle.std.proofs.Common.{◌≡◌, ◌≢◌, ℕ, ◌+◌, ◌≤◌, ◌&&◌, ◌||◌, not, Bool, true, false, List, [], ◌∷◌, Result, Ok, Err, refl, sym, ap, ◌∙◌, arith}
-use Rattle.std.specs.Prelude.{Option, Some, None, ◌==◌, nat_le}
-use Rattle.std.specs.Int.{w8, w16, w32, cast_signed}
+use Rattle.std.proofs.Common.{◌≡◌, ◌≢◌, ℕ, ◌≤◌, ◌||◌, not, Bool, true, false, List, [], ◌∷◌, Ok, Err, refl, sym, ap, ◌∙◌, arith}
+use Rattle.std.specs.Prelude.{Option, Some, None, ◌==◌}
 use Rattle.std.specs.List.{list_any}
-use Rattle.th_syntax.specs.declared.instr.Instr.{Instr}
 use Rattle.th_syntax.specs.declared.instr.Instr.TheVariants.{New, NewArray, ANewArray, ArrayLength, Throw, CheckCast, InstanceOf, MonitorEnter, MonitorExit}
 use Rattle.th_syntax.specs.declared.cause.TheConstants as cause
 use Rattle.th_syntax.specs.declared.instr.Primitive.{Primitive}
 use Rattle.th_syntax.specs.PoolChecks.{class_of}
 use Rattle.th_code.proofs.Giving.{given_ok, given_err}
-use Rattle.th_syntax.specs.Forms.{Form, whole, ◌>>=◌, Placed, Found, read}
-use Rattle.th_syntax.specs.ClassBytes.{Pool, u1, u2, u4}
-use Rattle.th_syntax.specs.CodeBytes.{Spelled, plain, load, load_wide, rows, given, checked, class_name_numbers, class_or_array_numbers, element_of}
-use Rattle.th_code.specs.Judged.{operand, judged, said, operands_of, named}
-use Rattle.th_code.specs.Opcodes.{is_within, small_constants, small_locals, array_access_codes, stack_move_codes, arithmetic_codes, conversion_codes}
+use Rattle.th_syntax.specs.Forms.{Placed, read}
+use Rattle.th_syntax.specs.ClassBytes.{Pool, u1, u2}
+use Rattle.th_syntax.specs.CodeBytes.{plain, rows, given, checked, class_name_numbers, class_or_array_numbers, element_of}
+use Rattle.th_code.specs.Judged.{operand, judged, operands_of, named}
 use Rattle.th_code.proofs.Operands.{judged_after, judged_stops, judged_plain}
 use Rattle.th_code.proofs.Opcodes.{not_it}
-use Rattle.th_code.proofs.Rows.{covers, all_in, sieved, refused_opcode, bare_read}
-use Rattle.th_code.proofs.Loaded.{load_ok, load_err, wide_ok, wide_err}
+use Rattle.th_code.proofs.Rows.{covers, all_in, sieved, refused_opcode}
 
 pub row_187 : (pool : Pool) (pc at : ℕ) (bytes : List ℕ) (p x b : ℕ) (u : List ℕ) (m : (List ℕ)) → operand u2 at bytes ≡ Ok (record { at = p; value = x }, b, u) → named (class_name_numbers) (class_of pool x) ≡ Ok m → judged (operands_of pool 187 pc) at bytes ≡ Ok (New m, b, u)
 unfolding operands_of

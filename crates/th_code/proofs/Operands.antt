@@ -1,13 +1,12 @@
 -- Operands, and what follows them.
-use Rattle.std.proofs.Common.{◌≡◌, ℕ, ◌<◌, ◌+◌, Bool, true, false, cond, ltb, List, [], ◌∷◌, length, take, drop, Result, Ok, Err, refl, sym, ap, ◌∙◌, arith}
-use Rattle.std.specs.Prelude.{◌==◌}
+use Rattle.std.proofs.Common.{◌≡◌, ℕ, Bool, true, false, cond, ltb, List, length, Result, Ok, Err, refl, sym, ap, ◌∙◌}
 use Rattle.th_syntax.specs.declared.cause.TheConstants as cause
 use Rattle.th_syntax.specs.declared.instr.Instr.{Instr}
 use Rattle.th_syntax.specs.declared.refusal.Flaw.{Flaw}
 use Rattle.th_syntax.specs.Flaws.{flaw_at}
-use Rattle.th_syntax.specs.Forms.{Form, whole, item, wrong, ◌>>=◌, Placed, Found, read}
-use Rattle.th_syntax.specs.ClassBytes.{u1, u2, u4, number, run}
-use Rattle.th_syntax.specs.CodeBytes.{Spelled, instr, flawed}
+use Rattle.th_syntax.specs.Forms.{Form, whole, ◌>>=◌, Found, read}
+use Rattle.th_syntax.specs.ClassBytes.{number, run}
+use Rattle.th_syntax.specs.CodeBytes.{Spelled, instr}
 use Rattle.th_syntax.proofs.ReadingParts.{read_after, read_stops}
 use Rattle.th_code.specs.Judged.{numbered, operand, number_of_flaw, judge, judged}
 

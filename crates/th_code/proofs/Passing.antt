@@ -1,25 +1,21 @@
 -- Passing over a code array, instruction by instruction.
-use Rattle.std.proofs.Common.{◌≡◌, ◌≢◌, ℕ, zero, suc, ◌+◌, ◌<◌, ◌≤◌, Bool, true, false, ◌||◌, cond, eqb, List, [], ◌∷◌, ◌++◌, length, Result, Ok, Err, refl, sym, ap, subst, ◌∙◌, append_assoc, arith}
-use Rattle.std.specs.Prelude.{Option, Some, None, ◌==◌, unwrap_or, slice_get, nat_le}
-use Rattle.std.specs.List.{filter_map, list_any, list_all}
-use Rattle.std.proofs.Math.ListN.{set, replicate, length-set}
-use Rattle.std.proofs.lemmas.Bool.{ne_eqb, eqb-true, eq-eqb}
-use Rattle.std.proofs.lemmas.List.{append-nil}
+use Rattle.std.proofs.Common.{◌≡◌, ◌≢◌, ℕ, zero, suc, ◌+◌, ◌<◌, Bool, true, false, ◌||◌, cond, List, [], ◌∷◌, ◌++◌, length, Result, Ok, Err, refl, sym, ap, ◌∙◌}
+use Rattle.std.specs.Prelude.{Option, ◌==◌, unwrap_or, slice_get}
+use Rattle.std.specs.List.{filter_map}
+use Rattle.std.proofs.Math.ListN.{set, replicate}
+use Rattle.std.proofs.lemmas.Bool.{eqb-true, eq-eqb}
 use Rattle.th_base.proofs.Alike.{slice_get-set_same, slice_get-set_other}
 use Rattle.th_syntax.specs.declared.cause.TheConstants as cause
 use Rattle.th_syntax.specs.declared.instr.Instr.{Instr}
 use Rattle.th_syntax.specs.declared.refusal.Flaw.{Flaw}
-use Rattle.th_syntax.specs.Flaws.{flaw_at, unless, Ascend, IsFirst}
-use Rattle.th_syntax.specs.Flow.{leads_to}
-use Rattle.th_syntax.specs.Forms.{◌>>=◌, Placed, Found, read}
+use Rattle.th_syntax.specs.Flaws.{flaw_at}
+use Rattle.th_syntax.specs.Forms.{Placed, Found, read}
 use Rattle.th_syntax.specs.ClassBytes.{Pool, u1}
 use Rattle.th_syntax.specs.CodeBytes.{Spelled, instr, flawed, among, rows, instruction}
-use Rattle.th_syntax.specs.Decoding.{spelled_by, decoded, instr_of, instrs_in, locals_named, least, instr_flaw, is_start, offset_behind, flow_flaws_from, flow_flaws, or_else, flaws_in}
-use Rattle.th_syntax.proofs.ReadingParts.{read_length}
-use Rattle.th_syntax.proofs.Spelling.{instruction_ahead, decoded_ok, decoded_err}
+use Rattle.th_syntax.specs.Decoding.{decoded, least, instr_flaw, is_start}
+use Rattle.th_syntax.proofs.Spelling.{decoded_ok, decoded_err}
 use Rattle.th_code.specs.Judged.{operand, judge_spelled, judge, judged, operands_of}
-use Rattle.th_code.specs.Starts.{is_marked, first_stray_of}
-use Rattle.th_code.specs.Decoded.{IsRead, IsStopped}
+use Rattle.th_code.specs.Starts.{is_marked}
 use Rattle.th_code.proofs.Operands.{judged_after, judged_stops}
 
 -- ---- an instruction from its opcode on

@@ -1,14 +1,13 @@
 -- One instruction after the other.
-use Rattle.std.proofs.Common.{◌≡◌, ℕ, zero, suc, ◌+◌, ◌<◌, ◌≤◌, Bool, true, false, ◌||◌, cond, eqb, List, [], ◌∷◌, ◌++◌, length, Result, Ok, Err, refl, sym, ap, subst, ◌∙◌, append_assoc, arith}
-use Rattle.std.specs.Prelude.{Option, Some, None, ◌==◌, nat_le, nat_lt}
+use Rattle.std.proofs.Common.{◌≡◌, ℕ, ◌+◌, ◌<◌, ◌≤◌, Bool, true, false, ◌||◌, List, [], ◌∷◌, ◌++◌, length, Ok, Err, refl, sym, ap, ◌∙◌, append_assoc, arith}
+use Rattle.std.specs.Prelude.{◌==◌, nat_le, nat_lt}
 use Rattle.std.specs.List.{filter_map}
-use Rattle.std.proofs.Math.ListN.{set, replicate, length-set, length-replicate}
+use Rattle.std.proofs.Math.ListN.{set, length-set}
 use Rattle.std.proofs.lemmas.Bool.{eqb-true}
 use Rattle.std.proofs.lemmas.List.{append-nil}
 use Rattle.th_syntax.specs.declared.instr.Instr.{Instr}
-use Rattle.th_syntax.specs.declared.refusal.Flaw.{Flaw}
 use Rattle.th_syntax.specs.Flaws.{flaw_at}
-use Rattle.th_syntax.specs.Forms.{Placed, Found, read}
+use Rattle.th_syntax.specs.Forms.{Placed}
 use Rattle.th_syntax.specs.ClassBytes.{Pool}
 use Rattle.th_syntax.specs.CodeBytes.{Spelled, instr, instruction}
 use Rattle.th_syntax.specs.Decoding.{decoded, instr_of, instrs_in, locals_named, instr_flaw, is_start}
@@ -21,7 +20,7 @@ use Rattle.std.proofs.lemmas.Bool.Decides.{nat_tests}
 use Rattle.th_code.specs.Judged.{judged, Takes, as_read}
 use Rattle.th_code.specs.Starts.{is_marked}
 use Rattle.th_code.specs.Decoded.{IsRead, IsStopped, placed_fail}
-use Rattle.th_code.proofs.Passing.{Begins, read_is, flaw_here, not_marked, start_added, mark_by}
+use Rattle.th_code.proofs.Passing.{read_is, flaw_here, start_added, mark_by}
 
 -- What was passed over, where the rest of the code stands at an offset.
 pub record Passes (pool : Pool) (max_locals at : ℕ) (code : List ℕ) (instrs : List (ℕ × Instr)) (starts : List Bool) (pc : ℕ) (rest : List ℕ) : Type 0 where

@@ -1,11 +1,11 @@
 -- What stands behind a switch.
-use Rattle.std.proofs.Common.{◌≡◌, ℕ, ◌-◌, ◌%◌, ◌^◌, Bool, true, false, List, [], ◌∷◌, map, Result, Ok, Err, refl, sym, ap, ◌∙◌}
-use Rattle.std.specs.Prelude.{ℤ, Option, Some, None, int_le, nat_lt}
+use Rattle.std.proofs.Common.{◌≡◌, ℕ, ◌-◌, ◌%◌, ◌^◌, Bool, true, false, List, [], ◌∷◌, map, Result, Ok, Err, refl, ap, ◌∙◌}
+use Rattle.std.specs.Prelude.{ℤ, None, int_le, nat_lt}
 use Rattle.th_syntax.specs.declared.cause.TheConstants as cause
 use Rattle.th_syntax.specs.declared.instr.Instr.{Instr}
 use Rattle.th_syntax.specs.declared.instr.Instr.TheVariants.{TableSwitch, LookupSwitch}
 use Rattle.th_syntax.specs.Flaws.{unless}
-use Rattle.th_syntax.specs.Forms.{Form, whole, ◌>>=◌, Placed, Found, read}
+use Rattle.th_syntax.specs.Forms.{Form, ◌>>=◌, Placed, Found, read}
 use Rattle.th_syntax.specs.ClassBytes.{u4, run, demand, times}
 use Rattle.th_syntax.specs.CodeBytes.{Spelled, plain, checked, target, padding, i4, count_between, table_switch, match_pair, keys_ascend, lookup_switch}
 use Rattle.th_syntax.proofs.ReadingParts.{read_demand, read_refusal}

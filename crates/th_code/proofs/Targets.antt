@@ -1,15 +1,15 @@
 -- Where branches lead.
-use Rattle.std.proofs.Common.{◌≡◌, ◌≢◌, ℕ, zero, suc, ◌+◌, ◌-◌, ◌<◌, ◌≤◌, List, Result, Ok, Err, refl, sym, ap, ◌∙◌, arith}
-use Rattle.std.specs.Prelude.{ℤ, pos, negsuc, ◌+ℤ◌, ◌<ℤ◌, ◌≤ℤ◌, min}
-use Rattle.std.specs.Int.{w16, w32, cast_signed}
+use Rattle.std.proofs.Common.{◌≡◌, ◌≢◌, ℕ, ◌+◌, ◌<◌, ◌≤◌, List, Result, Ok, refl, sym, ap, ◌∙◌, arith}
+use Rattle.std.specs.Prelude.{ℤ, pos, negsuc, ◌+ℤ◌, ◌<ℤ◌, min}
+use Rattle.std.specs.Int.{w16, cast_signed}
 use Rattle.std.proofs.lemmas.Int.{ints}
 use Rattle.th_base.specs.declared.operation.Relation.TheVariants.{Eq, Ne, Lt, Ge, Gt, Le}
 use Rattle.th_syntax.specs.declared.instr.Instr.{Instr}
 use Rattle.th_syntax.specs.declared.instr.Instr.TheVariants.{IfZero, IfInts, IfSame, IfOther, IfNull, IfNotNull, Goto}
 use Rattle.th_syntax.specs.declared.instr.TheConstants.{OUTSIDE}
-use Rattle.th_syntax.specs.Forms.{Form, whole, ◌>>=◌, Placed, Found}
-use Rattle.th_syntax.specs.ClassBytes.{Pool, u1, u2, u4}
-use Rattle.th_syntax.specs.CodeBytes.{plain, offset_of, target, jump, far}
+use Rattle.th_syntax.specs.Forms.{Placed, Found}
+use Rattle.th_syntax.specs.ClassBytes.{Pool, u2}
+use Rattle.th_syntax.specs.CodeBytes.{plain, offset_of, target, jump}
 use Rattle.th_code.specs.Judged.{operand, judged, operands_of}
 use Rattle.th_code.proofs.Operands.{judged_after, judged_plain}
 

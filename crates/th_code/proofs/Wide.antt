@@ -1,20 +1,18 @@
 -- What wide widens, and the branches behind it.
-use Rattle.std.proofs.Common.{◌≡◌, ◌≢◌, ℕ, ◌+◌, ◌≤◌, ◌&&◌, ◌||◌, not, Bool, true, false, List, [], ◌∷◌, Result, Ok, Err, refl, sym, ap, ◌∙◌, arith}
-use Rattle.std.specs.Prelude.{Option, Some, None, ◌==◌, nat_le}
-use Rattle.std.specs.Int.{w8, w16, w32, cast_signed}
+use Rattle.std.proofs.Common.{◌≡◌, ◌≢◌, ℕ, ◌≤◌, ◌&&◌, ◌||◌, not, Bool, true, false, List, [], ◌∷◌, Result, Ok, Err, refl, sym, ap, ◌∙◌, arith}
+use Rattle.std.specs.Prelude.{◌==◌, nat_le}
+use Rattle.std.specs.Int.{w16, w32, cast_signed}
 use Rattle.std.specs.List.{list_any}
 use Rattle.std.proofs.lemmas.Bool.Decides.{nat_tests}
 use Rattle.th_syntax.specs.declared.instr.Instr.{Instr}
 use Rattle.th_syntax.specs.declared.instr.Instr.TheVariants.{ILoad, LLoad, ALoad, IStore, LStore, AStore, Inc, IfNull, IfNotNull, Goto}
-use Rattle.th_syntax.specs.Forms.{Form, whole, ◌>>=◌, Placed, Found}
+use Rattle.th_syntax.specs.Forms.{Form, ◌>>=◌, Placed, Found}
 use Rattle.th_syntax.specs.ClassBytes.{Pool, u1, u2, u4}
-use Rattle.th_syntax.specs.CodeBytes.{Spelled, plain, load, load_wide, rows, among, wide_rows, target, jump, far}
-use Rattle.th_code.specs.Judged.{operand, judged, said, operands_of, wide_of}
-use Rattle.th_code.specs.Opcodes.{is_within, small_constants, small_locals, array_access_codes, stack_move_codes, arithmetic_codes, conversion_codes}
+use Rattle.th_syntax.specs.CodeBytes.{Spelled, plain, rows, wide_rows, target}
+use Rattle.th_code.specs.Judged.{operand, judged, operands_of, wide_of}
 use Rattle.th_code.proofs.Operands.{judged_after, judged_stops, judged_plain}
 use Rattle.th_code.proofs.Opcodes.{not_it}
-use Rattle.th_code.proofs.Rows.{among_none, wrong_judged, covers, all_in, sieved, refused_opcode, bare_read}
-use Rattle.th_code.proofs.Loaded.{load_ok, load_err, wide_ok, wide_err}
+use Rattle.th_code.proofs.Rows.{among_none, wrong_judged, covers, all_in, sieved, refused_opcode}
 
 pub row_21 : (pc at : ℕ) (bytes : List ℕ) (p x b : ℕ) (u : List ℕ) → operand u2 at bytes ≡ Ok (record { at = p; value = x }, b, u) → judged (wide_of 21 pc) at bytes ≡ Ok (ILoad x, b, u)
 unfolding wide_of

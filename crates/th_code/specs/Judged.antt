@@ -6,7 +6,7 @@ use Rattle.th_syntax.specs.declared.cause.TheConstants as cause
 use Rattle.th_syntax.specs.declared.instr.Instr.{Instr}
 use Rattle.th_syntax.specs.declared.instr.MemberRef.{MemberRef}
 use Rattle.th_syntax.specs.declared.refusal.Flaw.{Flaw}
-use Rattle.th_syntax.specs.Forms.{Form, whole, Placed, Found, read}
+use Rattle.th_syntax.specs.Forms.{Form, whole, Found, read}
 use Rattle.th_syntax.specs.ClassBytes.{Pool}
 use Rattle.th_syntax.specs.CodeBytes.{Spelled, instr, flawed, among, rows, wide_rows}
 use Rattle.th_syntax.specs.Decoding.{least}

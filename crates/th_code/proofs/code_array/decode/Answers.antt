@@ -1,5 +1,4 @@
-use Rattle.std.proofs.Common.{◌≡◌, ◌∙◌, ◌+◌, ◌<◌, ℕ, Bool, List, length, Ok, Err, ap, arith}
-use Rattle.std.specs.Prelude.{Some, None}
+use Rattle.std.proofs.Common.{◌∙◌, ◌+◌, ◌<◌, ℕ, Bool, List, length, ap, arith}
 use Rattle.th_syntax.specs.declared.instr.Instr.{Instr}
 use Rattle.th_code.specs.Starts.{is_marked, first_stray_of}
 use Rattle.th_code.proofs.Flowing.{stray_inside, no_flaws, stray_first, fail_first}

@@ -1,4 +1,4 @@
-use Rattle.std.proofs.Common.{◌≡◌, ◌∙◌, ◌+◌, ◌<◌, ℕ, true, false, length, sym, ap, arith}
+use Rattle.std.proofs.Common.{◌≡◌, ◌∙◌, ◌+◌, ◌<◌, ℕ, true, false, length, sym, arith}
 use Rattle.std.specs.Prelude.{nat_le}
 use Rattle.th_syntax.specs.Decoding.{locals_named}
 use Rattle.th_code.proofs.Steps.{starts_out, shrinks, passes_on, passes_short, fail_stops, is_passed, more_so, no_more}

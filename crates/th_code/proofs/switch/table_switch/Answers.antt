@@ -1,4 +1,4 @@
-use Rattle.std.proofs.Common.{◌≡◌, ◌∙◌, ℕ, true, Ok, ap, sym, rules, to_z, of_z, w32}
+use Rattle.std.proofs.Common.{◌≡◌, ◌∙◌, ℕ, true, ap, sym, rules, to_z, of_z, w32}
 use Rattle.std.specs.Prelude.{ℤ, int_le}
 use Rattle.th_syntax.specs.ClassBytes.{run, times}
 use Rattle.th_syntax.specs.CodeBytes.{target, i4, count_between}

@@ -3,7 +3,7 @@ use Rattle.std.specs.Prelude.{ℤ}
 use Rattle.th_syntax.specs.ClassBytes as file
 use Rattle.th_syntax.specs.CodeBytes as spelling
 use Rattle.th_code.specs.Judged.{operand}
-use Rattle.th_code.specs.Switches.{as_int, as_targets, led_to, mapped, with_front, targets_of}
+use Rattle.th_code.specs.Switches.{as_int, as_targets, mapped, with_front, targets_of}
 use Rattle.th_code.proofs.Cases.{goes_on, ends_so, is_done}
 use Rattle.th_code.proofs.switch.targets.Goals as goal
 

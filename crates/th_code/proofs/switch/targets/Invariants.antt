@@ -2,7 +2,7 @@ use Rattle.std.proofs.Common.{◌≡◌, map}
 use Rattle.th_syntax.specs.ClassBytes as file
 use Rattle.th_syntax.specs.CodeBytes as spelling
 use Rattle.th_code.specs.Judged.{operand}
-use Rattle.th_code.specs.Switches.{led_to, mapped, with_front}
+use Rattle.th_code.specs.Switches.{mapped, with_front}
 use Rattle.th_code.proofs.switch.targets.Given as goal
 
 abbrev pub invariant-loop-left : goal.invariant-loop-left
