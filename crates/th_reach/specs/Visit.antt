@@ -1,4 +1,4 @@
--- Private to the linker: the offsets that a visit of a method's code has come to.
+-- Private to the visit: the offsets that a visit of a method's code has come to.
 use Rattle.std.specs.Prelude.{ℕ, ◌≡◌, ◌<◌, ◌+◌, ◌||◌, true, Bool, List, [], ◌++◌, length, nat_eq, slice_get, slice_index, Some, option_to_list}
 use Rattle.std.specs.List.{list_any}
 use Rattle.std.specs.Option.{option_map, option_map_or}

@@ -25,6 +25,10 @@ const HANDLER: &[u8] =
 const LIMITS: &[u8] =
     b"\xca\xfe\xba\xbe\0\0\04\0#\x07\0\x02\x01\0\x10java/lang/Object\x0a\0\x01\0\x04\x0c\0\x05\0\x06\x01\0\x06<init>\x01\0\x03()V\x09\0\x08\0\x09\x07\0\x0a\x0c\0\x0b\0\x0c\x01\0\x06Limits\x01\0\x04LOCK\x01\0\x12Ljava/lang/Object;\x07\0\x0e\x01\0\x12java/lang/Runnable\x01\0\x04MOST\x01\0\x01I\x01\0\x0dConstantValue\x03\0\0\0\x05\x01\0\x03FAR\x01\0\x01J\x05\0\0\x01\0\0\0\0\0\x01\0\x04NAME\x01\0\x12Ljava/lang/String;\x08\0\x1a\x01\0\x06limits\x01\0\x02ON\x01\0\x01Z\x03\0\0\0\x01\x01\0\x06LETTER\x01\0\x01C\x03\0\0\0a\x01\0\x08<clinit>\x01\0\x04Code\x06\0\0\x08\0\x01\0\x01\0\x0d\0\x06\0\x19\0\x0f\0\x10\0\x01\0\x11\0\0\0\x02\0\x12\0\x19\0\x13\0\x14\0\x01\0\x11\0\0\0\x02\0\x15\0\x19\0\x17\0\x18\0\x01\0\x11\0\0\0\x02\0\x19\0\x19\0\x1b\0\x1c\0\x01\0\x11\0\0\0\x02\0\x1d\0\x19\0\x1e\0\x1f\0\x01\0\x11\0\0\0\x02\0 \0\x19\0\x0b\0\x0c\0\0\0\x01\0\x08\0!\0\x06\0\x01\0\x22\0\0\0\x17\0\x02\0\0\0\0\0\x0b\xbb\0\x01Y\xb7\0\x03\xb3\0\x07\xb1\0\0\0\0\0\0";
 
+// What `javac` made of examples/counter/Counter.java: loops, switches, longs, arrays and a handler.
+const COUNTER: &[u8] =
+    b"\xca\xfe\xba\xbe\0\0\04\0%\x0a\0\x02\0\x03\x07\0\x04\x0c\0\x05\0\x06\x01\0\x10java/lang/Object\x01\0\x06<init>\x01\0\x03()V\x07\0\x08\x01\0\x07Counter\x05\0\0\x01\0\0\0\0\0\x09\0\x07\0\x0c\x0c\0\x0d\0\x0e\x01\0\x05total\x01\0\x01J\x09\0\x07\0\x10\x0c\0\x11\0\x12\x01\0\x04seen\x01\0\x02[I\x05\0\0\0\0\0\0\0\x1f\x07\0\x16\x01\0\x1ajava/lang/RuntimeException\x01\0\x05START\x01\0\x0dConstantValue\x01\0\x04Code\x01\0\x0fLineNumberTable\x01\0\x04kind\x01\0\x04(I)I\x01\0\x0dStackMapTable\x01\0\x04name\x01\0\x03add\x01\0\x04(I)V\x01\0\x09isCounter\x01\0\x15(Ljava/lang/Object;)Z\x01\0\x0aSourceFile\x01\0\x0cCounter.java\0 \0\x07\0\x02\0\0\0\x03\0\x1a\0\x17\0\x0e\0\x01\0\x18\0\0\0\x02\0\x09\0\x02\0\x0d\0\x0e\0\0\0\x12\0\x11\0\x12\0\0\0\x05\0\0\0\x05\0\x06\0\x01\0\x19\0\0\03\0\x03\0\x01\0\0\0\x13*\xb7\0\x01*\x14\0\x09\xb5\0\x0b*\x07\xbc\x0a\xb5\0\x0f\xb1\0\0\0\x01\0\x1a\0\0\0\x0e\0\x03\0\0\0\x02\0\x04\0\x04\0\x0b\0\x05\0\0\0\x1b\0\x1c\0\x01\0\x19\0\0\0`\0\x02\0\x02\0\0\0.\x1b\xaa\0\0\0\0\0!\0\0\0\0\0\0\0\x02\0\0\0\x1b\0\0\0\x1b\0\0\0\x1e\x10\x0a\xac\x10\x14\xac\x1b\x10d\xa4\0\x07\x04\xa7\0\x04\x03\xac\0\0\0\x02\0\x1a\0\0\0\x12\0\x04\0\0\0\x08\0\x1c\0\x0b\0\x1f\0\x0d\0\"\0\x0f\0\x1d\0\0\0\x08\0\x05\x1c\x02\x02\x09@\x01\0\0\0\x1e\0\x1c\0\x01\0\x19\0\0\0Q\0\x01\0\x02\0\0\0\"\x1b\xab\0\0\0\0\0\x1f\0\0\0\x02\xff\xf0\xbd\xc0\0\0\0\x1b\0\x0fB@\0\0\0\x1d\x04\xac\x05\xac\x06\xac\0\0\0\x02\0\x1a\0\0\0\x12\0\x04\0\0\0\x14\0\x1c\0\x16\0\x1e\0\x18\0 \0\x1a\0\x1d\0\0\0\x05\0\x03\x1c\x01\x01\0\0\0\x1f\0 \0\x01\0\x19\0\0\0b\0\x05\0\x03\0\0\0+\x03=\x1c*\xb4\0\x0f\xbe\xa2\0\x13*\xb4\0\x0f\x1c\\.\x1b`O\x84\x02\x01\xa7\xff\xea**\xb4\0\x0b\x14\0\x13i\x1b\x85a\xb5\0\x0b\xb1\0\0\0\x02\0\x1a\0\0\0\x16\0\x05\0\0\0\x1f\0\x0b\0 \0\x15\0\x1f\0\x1b\0\"\0*\0#\0\x1d\0\0\0\x09\0\x02\xfc\0\x02\x01\xfa\0\x18\0\0\0!\0\"\0\x01\0\x19\0\0\0V\0\x04\0\x03\0\0\0\x1f+\xc1\0\x07\x99\0\x16+\xc0\0\x07\xb4\0\x0b*\xb4\0\x0b\x94\x9a\0\x07\x04\xa7\0\x04\x03\xacM\x03\xac\0\x01\0\0\0\x1b\0\x1c\0\x15\0\x02\0\x1a\0\0\0\x0e\0\x03\0\0\0'\0\x1c\0(\0\x1d\0)\0\x1d\0\0\0\x09\0\x03\x1a@\x01@\x07\0\x15\0\x01\0#\0\0\0\x02\0$";
+
 // The offsets at which an item of ACT begins, from the version on.
 const STARTS: [u32; 42] = [
     4, 6, 8, 10, 11, 13, 14, 16, 19, 20, 22, 23, 25, 45, 46, 48, 54, 55, 57, 60, 61, 63, 67, 68,
@@ -162,12 +166,19 @@ fn class_is_read(rt: HostRuntime) -> Result<(), Fail> {
     Ok(())
 }
 
-#[test]
-fn handlers_are_counted(rt: HostRuntime) -> Result<(), Fail> {
-    let mut found = Vec::new(rt.alloc());
-    match answer(rt.alloc(), HANDLER)? {
+// Of each method's code the room on the stack and for local variables, and how many instructions and
+// entries of the exception table it has.
+fn codes_of(
+    alloc: Global,
+    bytes: &[u8],
+    fields: usize,
+) -> Result<Vec<(u16, u16, usize, u32)>, Fail> {
+    let mut found = Vec::new(alloc);
+    match answer(alloc, bytes)? {
         Ok(class) => {
-            assert_eq!(rt; class.fields.len(), 1);
+            if class.fields.len() != fields {
+                return Err("other fields".into());
+            }
             for method in class.methods.as_slice() {
                 match &method.code {
                     Some(code) => {
@@ -178,13 +189,29 @@ fn handlers_are_counted(rt: HostRuntime) -> Result<(), Fail> {
                             code.handlers,
                         ))?;
                     }
-                    None => assert!(rt; false),
+                    None => return Err("a method without code".into()),
                 }
             }
         }
-        Err(_) => assert!(rt; false),
+        Err(_) => return Err("the file is refused".into()),
     }
+    Ok(found)
+}
+
+// The numbers are those that `javap -c -v` prints.
+#[test]
+fn compiled_code_is_read(rt: HostRuntime) -> Result<(), Fail> {
+    let found = codes_of(rt.alloc(), HANDLER, 1)?;
     assert_eq!(rt; found.as_slice(), [(1, 1, 3, 0), (1, 3, 5, 1)].as_slice());
+    let found = codes_of(rt.alloc(), COUNTER, 3)?;
+    let want = [
+        (3, 1, 10, 0),
+        (2, 2, 13, 0),
+        (1, 2, 8, 0),
+        (5, 3, 27, 0),
+        (4, 3, 17, 1),
+    ];
+    assert_eq!(rt; found.as_slice(), want.as_slice());
     Ok(())
 }
 
