@@ -60,7 +60,3 @@ pub use seq::Seq;
 pub use stack::Stack;
 pub use text::Text;
 
-#[cfg(test)]
-mod tests;
-#[cfg(test)]
-mod value_tests;

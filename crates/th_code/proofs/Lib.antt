@@ -12,10 +12,10 @@ pub mod Arithmetic
 pub mod Cases
 pub mod Switches
 pub mod Giving
-pub mod Control
+pub mod Branching
 pub mod Members
 pub mod Objects
-pub mod Wide
+pub mod Widening
 pub mod Leading
 pub mod Passing
 pub mod Steps

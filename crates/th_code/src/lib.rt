@@ -7,19 +7,22 @@
 //! of the flaws that stand there; `specs/Judged.antt` has what a single opcode and its operands are.
 #![tactic(auto)]
 
+mod access;
 mod bare;
 mod branch;
 mod code_array;
-mod complex;
 mod constant;
+mod control;
 mod family;
 mod flow;
 mod instruction;
 mod member;
+mod object;
 mod operand;
-mod read;
+mod plain;
 mod switch;
-#[cfg(test)]
-mod tests;
+mod wide;
 
 pub use code_array::decode;
+pub use instruction::instruction;
+pub use operand::Taken;

@@ -9,7 +9,7 @@ use th_pool::{Place, run, u1, u2, u4};
 use th_syntax::Flaw;
 use th_syntax::cause::CODE_SHAPE;
 
-// What was taken, and the place behind it, or the number of the check that fails.
+/// What was taken, and the place behind it, or the number of the check that fails.
 pub type Taken<'a, T> = Result<(T, Place<'a>), Fail<u8>>;
 
 // An operand of one byte.

@@ -24,5 +24,3 @@ pub use state::{BadEvent, CoreEvent, CoreSeat, CoreState, PARTS};
 pub use table::{EdgeTable, MOST_EDGES, Seat};
 pub use word::{Claim, Kind, Verdict, Word};
 
-#[cfg(test)]
-mod tests;

@@ -17,8 +17,6 @@ mod fact;
 mod gathering;
 pub mod laws;
 mod mixture;
-#[cfg(test)]
-mod tests;
 
 pub use division::{NormalForm, normal};
 pub use divisor::{gcd, magnitude};

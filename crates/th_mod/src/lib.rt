@@ -15,5 +15,3 @@ mod summary;
 
 pub use summary::summaries;
 
-#[cfg(test)]
-mod tests;

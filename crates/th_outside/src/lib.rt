@@ -21,5 +21,3 @@ pub use host::{HostFiles, HostSink};
 pub use memory::{MemFiles, MemSink};
 pub use sink::{Failed, Sink};
 
-#[cfg(test)]
-mod tests;

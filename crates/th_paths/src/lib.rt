@@ -17,5 +17,3 @@ mod trace;
 
 pub use index::{PathIndex, least_path};
 
-#[cfg(test)]
-mod tests;

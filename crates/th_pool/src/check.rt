@@ -7,22 +7,22 @@ ghost use Rattle.th_pool.specs.First.{BeginsWith};
 
 use crate::entry::{Entry, PlacedEntry};
 use crate::lookup::has_tag;
-use th_syntax::Flaw;
+use th_syntax::{Flaw, cause, tag};
 
 // Whether each index of an entry leads to an entry of the right tag.
 fn refers_well(slots: &[Option<PlacedEntry>], entry: Entry) -> bool
     ensures { result ≡ checks.refers_well (slots_view slots.now) (entry_view entry.entry) }
 {
     match entry {
-        Entry::Class(name) => has_tag(slots, name, 1),
-        Entry::String(text) => has_tag(slots, text, 1),
+        Entry::Class(name) => has_tag(slots, name, tag::UTF8),
+        Entry::String(text) => has_tag(slots, text, tag::UTF8),
         Entry::Field(owner, named)
         | Entry::Method(owner, named)
         | Entry::InterfaceMethod(owner, named) => {
-            has_tag(slots, owner, 7) && has_tag(slots, named, 12)
+            has_tag(slots, owner, tag::CLASS) && has_tag(slots, named, tag::NAME_AND_TYPE)
         }
         Entry::NameAndType(name, descriptor) => {
-            has_tag(slots, name, 1) && has_tag(slots, descriptor, 1)
+            has_tag(slots, name, tag::UTF8) && has_tag(slots, descriptor, tag::UTF8)
         }
         _ => true,
     }
@@ -33,7 +33,7 @@ fn flaw_of(slots: &[Option<PlacedEntry>], slot: Option<PlacedEntry>) -> Option<F
 {
     match slot {
         Some(placed) if !refers_well(slots, placed.entry) => Some(Flaw {
-            number: 4,
+            number: cause::POOL,
             offset: placed.at,
         }),
         _ => None,

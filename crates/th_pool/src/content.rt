@@ -9,20 +9,24 @@ ghost use Rattle.th_pool.specs.PoolView.{entry_view};
 use crate::entry::Entry;
 use crate::items::{handle, text, two_indices, two_words, u2, u4};
 use crate::place::Place;
-use th_syntax::Flaw;
+use th_syntax::{Flaw, tag};
 
 // Whether there are entries of this tag (Java specification, table 4.4-A).
 pub fn is_tag(tag: u8) -> bool
     ensures { result ≡ file.is_tag tag }
 {
-    tag == 1 || (3 <= tag && tag <= 12) || tag == 15 || tag == 16 || tag == 18
+    tag == tag::UTF8
+        || (tag::INTEGER <= tag && tag <= tag::NAME_AND_TYPE)
+        || tag == tag::METHOD_HANDLE
+        || tag == tag::METHOD_TYPE
+        || tag == tag::INVOKE_DYNAMIC
 }
 
 // Whether an entry of this tag takes two indices.
 pub fn is_wide(tag: u8) -> bool
     ensures { result ≡ file.is_wide tag }
 {
-    tag == 5 || tag == 6
+    tag == tag::LONG || tag == tag::DOUBLE
 }
 
 // The number of which these are the high and the low half.
@@ -39,35 +43,35 @@ fn reference(tag: u8, place: Place) -> Result<(Entry, Place), Flaw>
     ensures { Gives entry_view result (read (file.content tag) place.entry.at place.entry.rest.now) }
 {
     match tag {
-        7 => {
+        tag::CLASS => {
             let (name, place) = u2(place)?;
             Ok((Entry::Class(name), place))
         }
-        8 => {
+        tag::STRING => {
             let (bytes, place) = u2(place)?;
             Ok((Entry::String(bytes), place))
         }
-        9 => {
+        tag::FIELD => {
             let ((owner, member), place) = two_indices(place)?;
             Ok((Entry::Field(owner, member), place))
         }
-        10 => {
+        tag::METHOD => {
             let ((owner, member), place) = two_indices(place)?;
             Ok((Entry::Method(owner, member), place))
         }
-        11 => {
+        tag::INTERFACE_METHOD => {
             let ((owner, member), place) = two_indices(place)?;
             Ok((Entry::InterfaceMethod(owner, member), place))
         }
-        12 => {
+        tag::NAME_AND_TYPE => {
             let ((name, descriptor), place) = two_indices(place)?;
             Ok((Entry::NameAndType(name, descriptor), place))
         }
-        15 => {
+        tag::METHOD_HANDLE => {
             let (_, place) = handle(place)?;
             Ok((Entry::MethodHandle, place))
         }
-        16 => {
+        tag::METHOD_TYPE => {
             let (_, place) = u2(place)?;
             Ok((Entry::MethodType, place))
         }
@@ -85,23 +89,23 @@ pub fn content(tag: u8, place: Place) -> Result<(Entry, Place), Flaw>
     ensures { Gives entry_view result (read (file.content tag) place.entry.at place.entry.rest.now) }
 {
     match tag {
-        1 => {
+        tag::UTF8 => {
             let (bytes, place) = text(place)?;
             Ok((Entry::Utf8(bytes), place))
         }
-        3 => {
+        tag::INTEGER => {
             let (value, place) = u4(place)?;
             Ok((Entry::Integer(value.cast_signed()), place))
         }
-        4 => {
+        tag::FLOAT => {
             let (_, place) = u4(place)?;
             Ok((Entry::Float, place))
         }
-        5 => {
+        tag::LONG => {
             let ((high, low), place) = two_words(place)?;
             Ok((Entry::Long(long_of(high, low)), place))
         }
-        6 => {
+        tag::DOUBLE => {
             let (_, place) = two_words(place)?;
             Ok((Entry::Double, place))
         }

@@ -6,7 +6,7 @@ ghost use Rattle.th_pool.specs.Gives.{Gives, behind, bytes_at, number_at, pair_o
 
 use crate::place::Place;
 use byteorder::{BigEndian, ByteOrder};
-use th_syntax::Flaw;
+use th_syntax::{Flaw, cause};
 
 /// The next bytes, so many. Refused where fewer are left: number 2, at the place.
 #[tactic(auto, unfolding(th_syntax::specs::Forms::read, th_syntax::specs::ClassBytes::run))]
@@ -16,7 +16,7 @@ pub fn run<'a>(place: Place<'a>, count: usize) -> Result<(&'a [u8], Place<'a>), 
 {
     if place.rest.len() < count {
         return Err(Flaw {
-            number: 2,
+            number: cause::TRUNCATED,
             offset: place.at,
         });
     }

@@ -25,8 +25,6 @@ mod pool;
 mod pool_text;
 mod shape;
 mod slots;
-#[cfg(test)]
-mod tests;
 
 pub use items::{run, u1, u2, u4};
 pub use lookup::PoolMember;

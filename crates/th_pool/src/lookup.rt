@@ -7,10 +7,12 @@ ghost use Rattle.th_pool.specs.PoolView.{entry_view, slots_view, member_view, na
 
 use crate::entry::{Entry, PlacedEntry};
 use crate::pool_text::PoolText;
+use th_syntax::tag;
 
 // A field or a method: the tag of its entry, its owner, its name and its descriptor.
 pub type NamedMember<'a> = (u8, &'a [u8], &'a [u8], &'a [u8]);
 
+// The entry at an index; none where the index leads to none.
 pub fn entry_of<'a>(slots: &[Option<PlacedEntry<'a>>], index: u16) -> Option<Entry<'a>>
     ensures { option_map entry_view result ≡ checks.entry_of (slots_view slots.now) index }
 {
@@ -20,27 +22,29 @@ pub fn entry_of<'a>(slots: &[Option<PlacedEntry<'a>>], index: u16) -> Option<Ent
     }
 }
 
+// The tag of an entry.
 pub fn tag_of(entry: Entry) -> u8
     ensures { result ≡ file.tag_of (entry_view entry.entry) }
 {
     match entry {
-        Entry::Utf8(_) => 1,
-        Entry::Integer(_) => 3,
-        Entry::Float => 4,
-        Entry::Long(_) => 5,
-        Entry::Double => 6,
-        Entry::Class(_) => 7,
-        Entry::String(_) => 8,
-        Entry::Field(_, _) => 9,
-        Entry::Method(_, _) => 10,
-        Entry::InterfaceMethod(_, _) => 11,
-        Entry::NameAndType(_, _) => 12,
-        Entry::MethodHandle => 15,
-        Entry::MethodType => 16,
-        Entry::InvokeDynamic => 18,
+        Entry::Utf8(_) => tag::UTF8,
+        Entry::Integer(_) => tag::INTEGER,
+        Entry::Float => tag::FLOAT,
+        Entry::Long(_) => tag::LONG,
+        Entry::Double => tag::DOUBLE,
+        Entry::Class(_) => tag::CLASS,
+        Entry::String(_) => tag::STRING,
+        Entry::Field(_, _) => tag::FIELD,
+        Entry::Method(_, _) => tag::METHOD,
+        Entry::InterfaceMethod(_, _) => tag::INTERFACE_METHOD,
+        Entry::NameAndType(_, _) => tag::NAME_AND_TYPE,
+        Entry::MethodHandle => tag::METHOD_HANDLE,
+        Entry::MethodType => tag::METHOD_TYPE,
+        Entry::InvokeDynamic => tag::INVOKE_DYNAMIC,
     }
 }
 
+// The tag of the entry at an index.
 pub fn tag_at(slots: &[Option<PlacedEntry>], index: u16) -> Option<u8>
     ensures { result ≡ checks.tag_at (slots_view slots.now) index }
 {
@@ -50,6 +54,7 @@ pub fn tag_at(slots: &[Option<PlacedEntry>], index: u16) -> Option<u8>
     }
 }
 
+// Whether an index leads to an entry of this tag.
 pub fn has_tag(slots: &[Option<PlacedEntry>], index: u16, tag: u8) -> bool
     ensures { result ≡ checks.has_tag (slots_view slots.now) index tag }
 {
@@ -59,6 +64,7 @@ pub fn has_tag(slots: &[Option<PlacedEntry>], index: u16, tag: u8) -> bool
     }
 }
 
+// The bytes of a Utf8 entry.
 pub fn utf8_of<'a>(slots: &[Option<PlacedEntry<'a>>], index: u16) -> Option<&'a [u8]>
     ensures { option_copied result ≡ checks.utf8_of (slots_view slots.now) index }
 {
@@ -68,6 +74,7 @@ pub fn utf8_of<'a>(slots: &[Option<PlacedEntry<'a>>], index: u16) -> Option<&'a 
     }
 }
 
+// The number of an Integer entry.
 pub fn integer_of(slots: &[Option<PlacedEntry>], index: u16) -> Option<i32>
     ensures { result ≡ checks.integer_of (slots_view slots.now) index }
 {
@@ -77,6 +84,7 @@ pub fn integer_of(slots: &[Option<PlacedEntry>], index: u16) -> Option<i32>
     }
 }
 
+// The number of a Long entry.
 pub fn long_of(slots: &[Option<PlacedEntry>], index: u16) -> Option<i64>
     ensures { result ≡ checks.long_of (slots_view slots.now) index }
 {
@@ -86,6 +94,7 @@ pub fn long_of(slots: &[Option<PlacedEntry>], index: u16) -> Option<i64>
     }
 }
 
+// The name that a Class entry leads to.
 pub fn class_of<'a>(slots: &[Option<PlacedEntry<'a>>], index: u16) -> Option<&'a [u8]>
     ensures { option_copied result ≡ checks.class_of (slots_view slots.now) index }
 {
@@ -95,6 +104,7 @@ pub fn class_of<'a>(slots: &[Option<PlacedEntry<'a>>], index: u16) -> Option<&'a
     }
 }
 
+// The text that a String entry leads to.
 pub fn string_of<'a>(slots: &[Option<PlacedEntry<'a>>], index: u16) -> Option<&'a [u8]>
     ensures { option_copied result ≡ checks.string_of (slots_view slots.now) index }
 {
@@ -130,13 +140,19 @@ fn member_by<'a>(
     Some((tag, owner, name, descriptor))
 }
 
+// The member that a Fieldref, Methodref or InterfaceMethodref entry leads to, with its tag.
 pub fn member_of<'a>(slots: &[Option<PlacedEntry<'a>>], index: u16) -> Option<NamedMember<'a>>
     ensures { member_view result ≡ checks.tagged_member_of (slots_view slots.now) index }
 {
     match entry_of(slots, index) {
-        Some(Entry::Field(owner, named)) => member_by(slots, 9, owner, named),
-        Some(Entry::Method(owner, named)) => member_by(slots, 10, owner, named),
-        Some(Entry::InterfaceMethod(owner, named)) => member_by(slots, 11, owner, named),
+        Some(Entry::Field(owner, named)) => member_by(slots, tag::FIELD, owner, named),
+        Some(Entry::Method(owner, named)) => member_by(slots, tag::METHOD, owner, named),
+        Some(Entry::InterfaceMethod(owner, named)) => member_by(
+            slots,
+            tag::INTERFACE_METHOD,
+            owner,
+            named,
+        ),
         _ => None,
     }
 }

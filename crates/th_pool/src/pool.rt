@@ -5,6 +5,7 @@ ghost use Rattle.th_syntax.specs.Forms.{Stands, IsFlawed, read};
 ghost use Rattle.th_syntax.specs.ClassBytes as file;
 ghost use Rattle.th_syntax.specs.PoolChecks as checks;
 ghost use Rattle.th_syntax.specs.Flaws.{IsFirst};
+ghost use Rattle.th_syntax.specs.declared.tag.TheConstants as tags;
 ghost use Rattle.th_pool.specs.Gives.{Answers, IfRefused, end_at};
 ghost use Rattle.th_pool.specs.PoolView.{member_view};
 ghost use Rattle.th_pool.specs.Members.{texts_member, texts_names};
@@ -18,8 +19,8 @@ use crate::slots::{Slots, pool_slots};
 use std::alloc::Global;
 use std::marker::Model;
 use th_base::Fail;
-use th_syntax::Flaw;
 use th_syntax::laws::class_files::pool_reading;
+use th_syntax::{Flaw, tag};
 
 /// The constant pool of a class file, over the file's bytes (Java specification 4.4).
 #[derive(Debug, Drop)]
@@ -92,7 +93,7 @@ impl Pool<'_> {
     /// The bytes of a Utf8 entry; `None` exactly where the index leads to no such entry.
     pub fn utf8(&self, index: u16) -> Option<&[u8]>
         ensures value { option_copied result ≡ checks.utf8_of self.now index }
-        ensures there { is_some result ≡ checks.has_tag self.now index 1 }
+        ensures there { is_some result ≡ checks.has_tag self.now index tags.UTF8 }
     {
         lookup::utf8_of(self.slots.as_slice(), index)
     }
@@ -100,7 +101,7 @@ impl Pool<'_> {
     /// The value of an Integer entry; `None` exactly where the index leads to no such entry.
     pub fn integer(&self, index: u16) -> Option<i32>
         ensures value { result ≡ checks.integer_of self.now index }
-        ensures there { is_some result ≡ checks.has_tag self.now index 3 }
+        ensures there { is_some result ≡ checks.has_tag self.now index tags.INTEGER }
     {
         lookup::integer_of(self.slots.as_slice(), index)
     }
@@ -108,7 +109,7 @@ impl Pool<'_> {
     /// The value of a Long entry; `None` exactly where the index leads to no such entry.
     pub fn long(&self, index: u16) -> Option<i64>
         ensures value { result ≡ checks.long_of self.now index }
-        ensures there { is_some result ≡ checks.has_tag self.now index 5 }
+        ensures there { is_some result ≡ checks.has_tag self.now index tags.LONG }
     {
         lookup::long_of(self.slots.as_slice(), index)
     }
@@ -118,7 +119,7 @@ impl Pool<'_> {
     pub fn class(&self, index: u16) -> Option<&[u8]>
         requires { checks.entry_flaws self.now ≡ [] }
         ensures value { option_copied result ≡ checks.class_of self.now index }
-        ensures there { is_some result ≡ checks.has_tag self.now index 7 }
+        ensures there { is_some result ≡ checks.has_tag self.now index tags.CLASS }
     {
         lookup::class_of(self.slots.as_slice(), index)
     }
@@ -128,7 +129,7 @@ impl Pool<'_> {
     pub fn string(&self, index: u16) -> Option<&[u8]>
         requires { checks.entry_flaws self.now ≡ [] }
         ensures value { option_copied result ≡ checks.string_of self.now index }
-        ensures there { is_some result ≡ checks.has_tag self.now index 8 }
+        ensures there { is_some result ≡ checks.has_tag self.now index tags.STRING }
     {
         lookup::string_of(self.slots.as_slice(), index)
     }
@@ -139,7 +140,7 @@ impl Pool<'_> {
     pub fn member(&self, index: u16) -> Option<(u8, &[u8], &[u8], &[u8])>
         requires { checks.entry_flaws self.now ≡ [] }
         ensures value { member_view result ≡ checks.tagged_member_of self.now index }
-        ensures there { is_some result ≡ (checks.has_tag self.now index 9 || checks.has_tag self.now index 10 || checks.has_tag self.now index 11) }
+        ensures there { is_some result ≡ (checks.has_tag self.now index tags.FIELD || checks.has_tag self.now index tags.METHOD || checks.has_tag self.now index tags.INTERFACE_METHOD) }
     {
         lookup::member_of(self.slots.as_slice(), index)
     }
@@ -205,9 +206,13 @@ impl Pool<'_> {
         ensures { texts_member result ≡ checks.tagged_member_of self.now index }
     {
         match lookup::entry_of(self.slots.as_slice(), index) {
-            Some(Entry::Field(owner, named)) => self.member_by(9, owner, named),
-            Some(Entry::Method(owner, named)) => self.member_by(10, owner, named),
-            Some(Entry::InterfaceMethod(owner, named)) => self.member_by(11, owner, named),
+            Some(Entry::Field(owner, named)) => self.member_by(tag::FIELD, owner, named),
+            Some(Entry::Method(owner, named)) => self.member_by(tag::METHOD, owner, named),
+            Some(Entry::InterfaceMethod(owner, named)) => self.member_by(
+                tag::INTERFACE_METHOD,
+                owner,
+                named,
+            ),
             _ => None,
         }
     }

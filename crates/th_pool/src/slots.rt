@@ -13,7 +13,7 @@ use crate::lookup::tag_of;
 use crate::place::Place;
 use std::alloc::Global;
 use th_base::Fail;
-use th_syntax::Flaw;
+use th_syntax::{Flaw, cause};
 
 // What each index of a pool leads to, from index 0 on.
 pub type Slots<'a> = Vec<Option<PlacedEntry<'a>>>;
@@ -32,7 +32,7 @@ fn entry(place: Place, left: u16) -> Result<(PlacedEntry, Place), Flaw>
     let (tag, after) = u1(place)?;
     if !is_allowed(tag, left) {
         return Err(Flaw {
-            number: 4,
+            number: cause::POOL,
             offset: place.at,
         });
     }
@@ -103,7 +103,7 @@ pub fn pool_slots<'a>(alloc: Global, place: Place<'a>) -> Result<(Slots<'a>, Pla
     };
     if count == 0 {
         return Err(Fail::Refused(Flaw {
-            number: 4,
+            number: cause::POOL,
             offset: place.at,
         }));
     }

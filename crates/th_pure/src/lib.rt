@@ -20,8 +20,6 @@ mod products;
 mod range;
 mod refutation;
 mod substitution;
-#[cfg(test)]
-mod tests;
 
 pub use range::Range;
 pub use refutation::refutes;

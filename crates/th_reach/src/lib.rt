@@ -7,8 +7,6 @@
 #![tactic(auto)]
 
 mod reached;
-#[cfg(test)]
-mod tests;
 mod visit;
 
 pub use reached::Reached;

@@ -20,8 +20,6 @@ mod layout;
 mod members;
 mod names;
 mod reader;
-#[cfg(test)]
-mod tests;
 mod value;
 
 pub use reader::read_class;

@@ -1,15 +1,19 @@
-//! Runs of the whole program over files and sinks in memory, and what they must leave.
+//! Tests of class files and of runs of the whole program over files and sinks in memory.
 //!
 //! Nothing stands on this crate. Expected texts and statuses were worked out by hand from the
 //! program's definitions, never taken from its output.
 #![tactic(auto)]
 
 #[cfg(test)]
+mod class_files;
+#[cfg(test)]
+mod codes;
+#[cfg(test)]
 mod files;
 #[cfg(test)]
-mod plans;
+mod pools;
 #[cfg(test)]
-mod register_form;
+mod reached_code;
 #[cfg(test)]
 mod runs;
 #[cfg(test)]

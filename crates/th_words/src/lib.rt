@@ -22,5 +22,3 @@ mod word_shape;
 pub use command::{Command, UsageFault};
 pub use read::read_words;
 
-#[cfg(test)]
-mod tests;

@@ -19,5 +19,3 @@ pub use long::{
 };
 pub use narrow::{low32, narrow_char, narrow8, narrow16, widen64};
 
-#[cfg(test)]
-mod tests;

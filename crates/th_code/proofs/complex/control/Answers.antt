@@ -1,6 +1,0 @@
-use Rattle.std.proofs.Common.{rules}
-use Rattle.th_code.proofs.Control.{others}
-use Rattle.th_code.proofs.complex.control.Goals as goal
-
-pub returns-in_default : goal.returns-in_default
-returns-in_default c = search (rules, others)

@@ -1,0 +1,6 @@
+use Rattle.std.proofs.Common.{rules}
+use Rattle.th_code.proofs.Variables.{others}
+use Rattle.th_code.proofs.plain.variable.Goals as goal
+
+pub returns-in_default-code : goal.returns-in_default-code
+returns-in_default-code c = search (rules, others)
