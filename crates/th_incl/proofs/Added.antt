@@ -1,20 +1,19 @@
 -- An addition keeps what holds between runs.
-use Rattle.std.proofs.Common.{◌≡◌, ◌≢◌, ℕ, ◌<◌, ◌+◌, zero, suc, true, false, not, List, [], ◌∷◌, ◌++◌, ◌⊎◌, inl, inr, length, get_or, replicate, set, refl, sym, ap, ◌∙◌, subst, arith, get_or-set_other, get_or-set_same}
-use Rattle.std.specs.List.{Contains, sum_by}
+use Rattle.std.proofs.Common.{◌≡◌, ◌≢◌, ℕ, ◌<◌, ◌+◌, zero, suc, true, false, List, [], ◌∷◌, ◌++◌, inl, inr, length, get_or, replicate, set, refl, sym, ap, ◌∙◌, subst, arith, get_or-set_other, get_or-set_same}
+use Rattle.std.specs.List.{Contains}
 use Rattle.std.proofs.lemmas.Bool.{cases_eq, cases_Bool, both_ways, eqb-true, eq-eqb}
 use Rattle.std.proofs.lemmas.List.{length-set, length-append, length-replicate}
 use Rattle.std.proofs.lemmas.List.Sums.{sum_by-append}
 use Rattle.std.proofs.lemmas.List.Folds.{sum_by-replicate}
 use Rattle.std.proofs.lemmas.List.Elements.{Contains-append_left, Contains-push, Contains-push_cases}
 use Rattle.th_base.specs.IdSet.{has, IsAscending}
-use Rattle.th_base.proofs.Ascending.{has-filter}
 use Rattle.th_incl.specs.Least.{set_at, is_in, In, Reaches, given, passed, IsInRange, pair_count}
 use Rattle.th_incl.specs.Parts.{missing, lacking}
-use Rattle.th_incl.specs.Run.{Known, Inv, Tables, out_at, Queued, Receives, Spreads}
+use Rattle.th_incl.specs.Run.{Known, Inv, Tables, out_at, Queued, Receives}
 use Rattle.th_incl.specs.declared.constraints.Inclusion.{Inclusion}
 use Rattle.th_incl.specs.declared.constraints.Constraints.{Constraints}
 use Rattle.th_incl.proofs.Members.{has_one}
-use Rattle.th_incl.proofs.Through.{only_one, nothing_in_none, received_cases, received_stays, received_has, received_queued}
+use Rattle.th_incl.proofs.Through.{nothing_in_none, received_cases, received_stays, received_has, received_queued}
 use Rattle.th_incl.proofs.Steps.{missing_parts, missing_has}
 
 -- the constraints with one more

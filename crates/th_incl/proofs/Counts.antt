@@ -1,14 +1,14 @@
 -- How many numbers sets hold, and that the least sets hold no fewer than any sets whose numbers reach them.
-use Rattle.std.proofs.Common.{◌≡◌, ℕ, ◌<◌, ◌≤◌, ◌+◌, ◌-◌, ◌^◌, suc, zero, true, eqb, List, [], ◌∷◌, inl, inr, length, get_or, set, refl, sym, ap, ◌∙◌, subst, arith, get_or-set_same, get_or-set_other}
-use Rattle.std.specs.List.{All, sum_by}
+use Rattle.std.proofs.Common.{◌≡◌, ℕ, ◌<◌, ◌≤◌, ◌+◌, ◌-◌, ◌^◌, suc, zero, true, eqb, List, [], ◌∷◌, inl, inr, length, set, refl, sym, ap, ◌∙◌, subst, arith, get_or-set_same, get_or-set_other}
+use Rattle.std.specs.List.{All}
 use Rattle.std.proofs.lemmas.Bool.{cases_eq, cases_order, both_ways, or_cases, or_right, eqb-true}
-use Rattle.std.proofs.lemmas.List.{length-set}
+use Rattle.std.proofs.lemmas.List.{length-set, get_or_default}
 use Rattle.std.proofs.lemmas.List.Sums.{sum_by-set, sum_by-cons}
 use Rattle.th_base.specs.IdSet.{has, union_of, IsAscending}
 use Rattle.th_base.proofs.Ascending.{has_first, absent_below, all_weaker, has-union_of, IsAscending-union_of}
-use Rattle.th_incl.specs.Least.{set_at, In, Reaches, IsLeast, pair_count}
+use Rattle.th_incl.specs.Least.{set_at, In, Reaches, IsLeast, HasMoreThan, pair_count}
 use Rattle.th_incl.specs.Parts.{SameMembers}
-use Rattle.th_incl.specs.Run.{Known, Inv, IsOver, room}
+use Rattle.th_incl.specs.Run.{Inv, room}
 use Rattle.th_incl.specs.declared.constraints.Constraints.{Constraints}
 use Rattle.th_incl.proofs.Members.{length-union_of}
 
@@ -56,19 +56,31 @@ pairs_le [] b e h = omega arith
 pairs_le (x ∷ xs) [] e h = absurd (omega (arith, e))
 pairs_le (x ∷ xs) (y ∷ ys) e h = let rest = pairs_le xs ys (omega (arith, e)) (λ k. h (suc k)) in let first = h 0 in omega (arith, rest, first, sum_by-cons length x xs, sum_by-cons length y ys)
 
-pub over_by : (c : Constraints) (sets : List (List ℕ)) (limit : ℕ) → length sets ≡ c.sets → ((k : ℕ) → IsAscending (set_at sets k))
-    → ((i x : ℕ) → In sets i x → Reaches c i x) → limit < pair_count sets → IsOver c limit
-over_by c sets limit len asc sound over least l =
-    let le = pairs_le sets least (len ∙ sym l.count) (λ k. part_le (set_at sets k) (set_at least k) (asc k) (ascending_at least l.ascending k) (λ z e. (l.exact k z).1 (sound k z e))) in
+over_by : (c : Constraints) (sets : List (List ℕ)) (limit : ℕ) → length sets ≡ c.sets → ((k : ℕ) → IsAscending (set_at sets k))
+    → ((i x : ℕ) → In sets i x → Reaches c i x) → limit < pair_count sets → HasMoreThan c limit
+over_by c sets limit len asc reach over = record {
+  some = sets;
+  count = len;
+  ascending = λ k d h. subst (λ l. IsAscending l) (sym (get_or_default sets k d [] h)) (asc k);
+  reach = reach;
+  over = over;
+}
+
+-- so do the least sets
+pub least_over : (c : Constraints) (limit : ℕ) (sets : List (List ℕ)) → HasMoreThan c limit → IsLeast c sets → limit < pair_count sets
+least_over c limit sets m l =
+    let le = pairs_le m.some sets (m.count ∙ sym l.count)
+    (λ k. part_le (set_at m.some k) (set_at sets k) (ascending_at m.some m.ascending k) (ascending_at sets l.ascending k) (λ z e. (l.exact k z).1 (m.reach k z e))) in
+    let over = m.over in
     omega (arith, le, over)
 
 -- what is known already holds more pairs than the limit
-pub over : (c : Constraints) (sets news : List (List ℕ)) (limit : ℕ) → Inv c sets news → limit < pair_count sets → IsOver c limit
+pub over : (c : Constraints) (sets news : List (List ℕ)) (limit : ℕ) → Inv c sets news → limit < pair_count sets → HasMoreThan c limit
 over c sets news limit v = over_by c sets limit v.sets_len v.ascending (λ i x e. v.sound i x (inl e))
 
 -- the news of one set, `fresh`, would be too many
 pub over_news : (c : Constraints) (sets news : List (List ℕ)) (i : ℕ) (fresh : List ℕ) (limit : ℕ) → Inv c sets news → i < length sets
-    → SameMembers (set_at news i) fresh → IsAscending fresh → limit < pair_count sets + length fresh → IsOver c limit
+    → SameMembers (set_at news i) fresh → IsAscending fresh → limit < pair_count sets + length fresh → HasMoreThan c limit
 over_news c sets news i fresh limit v lt same asc over =
     let old : List ℕ = set_at sets i in
     let both : List ℕ = union_of old fresh in

@@ -1,15 +1,14 @@
 -- Closed families of sets, and the least one.
-use Rattle.std.proofs.Common.{◌≡◌, ◌↔◌, ◌≤◌, ◌<◌, ℕ, Bool, true, false, List, [], length, refl, sym, ap, ◌∙◌, subst, arith}
+use Rattle.std.proofs.Common.{◌≡◌, ◌≤◌, ℕ, Bool, true, false, List, [], length, refl, sym, ◌∙◌, subst, arith}
 use Rattle.std.specs.List.{All}
 use Rattle.std.proofs.lemmas.Bool.{both_ways}
 use Rattle.std.proofs.lemmas.List.{ext_get_or}
-use Rattle.th_base.specs.IdSet.{has, IsAscending}
+use Rattle.th_base.specs.IdSet.{IsAscending}
 use Rattle.th_base.proofs.Ascending.{same_members}
-use Rattle.th_incl.specs.Least.{set_at, is_in, In, Reaches, given, passed, IsLeast, IsClosed, TellsWithin, pair_count}
-use Rattle.th_incl.specs.Run.{IsOver}
+use Rattle.th_incl.specs.Least.{set_at, is_in, In, Reaches, given, passed, IsLeast, IsClosed, TellsWithin, HasMoreThan, pair_count}
 use Rattle.th_incl.specs.declared.constraints.Constraints.{Constraints}
 use Rattle.th_incl.proofs.Members.{same_tests}
-use Rattle.th_incl.proofs.Counts.{ascending_at}
+use Rattle.th_incl.proofs.Counts.{ascending_at, least_over}
 
 pub least_is_closed : (c : Constraints) (sets : List (List ℕ)) → IsLeast c sets → IsClosed c (is_in sets)
 least_is_closed c sets l = record {
@@ -41,5 +40,5 @@ least_by_families c a b l len asc closed within =
 pub tells_yes : (c : Constraints) (sets : List (List ℕ)) (limit : ℕ) → IsLeast c sets → pair_count sets ≤ limit → TellsWithin c limit true
 tells_yes c sets limit l le other m = (λ e. subst (λ s. pair_count s ≤ limit) (one_least c sets other l m) le, λ e. refl)
 
-pub tells_no : (c : Constraints) (limit : ℕ) → IsOver c limit → TellsWithin c limit false
-tells_no c limit over other m = (λ e. absurd (both_ways _ refl e), λ le. let more = over other m in absurd (omega (arith, le, more)))
+pub tells_no : (c : Constraints) (limit : ℕ) → HasMoreThan c limit → TellsWithin c limit false
+tells_no c limit over other m = (λ e. absurd (both_ways _ refl e), λ le. let more = least_over c limit other over m in absurd (omega (arith, le, more)))

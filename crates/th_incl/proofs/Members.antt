@@ -1,18 +1,18 @@
 -- Lists with the same members: after a sort, with one number more, as a union.
-use Rattle.std.proofs.Common.{◌≡◌, ℕ, ◌<◌, ◌+◌, ◌-◌, ◌≤◌, zero, suc, Bool, true, false, eqb, ltb, cond, ◌&&◌, ◌||◌, not, List, [], ◌∷◌, ◌++◌, inl, inr, length, get_or, take, refl, sym, ap, ◌∙◌, subst, arith}
+use Rattle.std.proofs.Common.{◌≡◌, ℕ, ◌<◌, ◌+◌, ◌-◌, suc, Bool, true, false, eqb, ltb, cond, ◌||◌, List, [], ◌∷◌, ◌++◌, inl, inr, length, get_or, refl, sym, ap, ◌∙◌, subst, arith}
 use Rattle.std.specs.List.{AllPairs, filter, dedup}
 use Rattle.std.specs.List.Sorted.{IsPermutation, IsSorted}
 use Rattle.std.specs.Ordering.{nat_cmp}
-use Rattle.std.proofs.lemmas.Bool.{cases_Bool, cases_order, both_ways, eq-eqb, eqb-true, or_parts, or_cases, or_right, lt-ltb, le-ltb}
-use Rattle.std.proofs.lemmas.List.{length-append, take_more}
-use Rattle.std.proofs.lemmas.List.Elements.{recursion_from_All, filter-append}
+use Rattle.std.proofs.lemmas.Bool.{cases_Bool, cases_order, both_ways, eq-eqb, or_parts, or_right, lt-ltb, le-ltb}
+use Rattle.std.proofs.lemmas.List.{length-append}
+use Rattle.std.proofs.lemmas.List.Elements.{recursion_from_All}
 use Rattle.std.proofs.lemmas.List.Kept.{AllPairs-from_increasing, Contains-dedup_nat, Contains-from_dedup}
 use Rattle.std.proofs.lemmas.List.Sorted.{Contains-permutation, IsPermutation-sym}
 use Rattle.std.proofs.lemmas.Map.Keys.{IsStrictlyIncreasing-dedup}
 use Rattle.th_base.specs.IdSet.{has, inserted, union_of, intersection_of, IsAscending}
-use Rattle.th_base.proofs.Ascending.{has-append, has-inserted, has-union_of, has_first, absent_below, all_weaker, same_members, IsAscending-inserted, IsAscending-union_of}
+use Rattle.th_base.proofs.Ascending.{has-append, has-union_of, has_first, absent_below, all_weaker}
 use Rattle.th_base.proofs.Membership.{Contains-from_has, has-from_Contains}
-use Rattle.th_incl.specs.Parts.{SameMembers, missing}
+use Rattle.th_incl.specs.Parts.{SameMembers}
 
 pub same_tests : (a b : Bool) → (a ≡ true → b ≡ true) → (b ≡ true → a ≡ true) → a ≡ b
 same_tests a b f g =

@@ -1,14 +1,13 @@
 -- Rounds come to an end, and then the sets are the least.
-use Rattle.std.proofs.Common.{◌≡◌, ◌≢◌, ℕ, ◌<◌, ◌≤◌, ◌+◌, ◌*◌, zero, suc, min, eqb, true, List, [], ◌∷◌, ◌++◌, ◌⊎◌, inl, inr, length, get_or, take, drop, set, refl, sym, ap, ◌∙◌, subst, arith, get_or-set_same, get_or-set_other}
-use Rattle.std.specs.List.{All, Contains}
+use Rattle.std.proofs.Common.{◌≡◌, ℕ, ◌<◌, ◌+◌, ◌*◌, zero, suc, min, eqb, true, List, [], ◌∷◌, ◌++◌, inl, inr, length, get_or, take, drop, set, refl, sym, ap, ◌∙◌, subst, arith, get_or-set_other}
 use Rattle.std.proofs.lemmas.Bool.{cases_eq, both_ways, or_cases, eqb-true}
 use Rattle.std.proofs.lemmas.List.{drop_more, get_or_default, length-set, take-append-drop}
 use Rattle.th_base.specs.IdSet.{has, IsAscending}
 use Rattle.th_base.proofs.Membership.{has_append_cases, has_append_left, has_append_right}
-use Rattle.th_incl.specs.Least.{set_at, In, Reaches, given, passed, IsLeast, pair_count}
+use Rattle.th_incl.specs.Least.{set_at, In, Reaches, given, passed, IsLeast, HasMoreThan, pair_count}
 use Rattle.th_incl.specs.Parts.{SameMembers}
-use Rattle.th_incl.specs.Run.{Known, Inv, Queued, Progress, IsOver, room}
-use Rattle.th_incl.specs.Kept.{constraints_of, IsConsistent, Kept, Steps, Stops}
+use Rattle.th_incl.specs.Run.{Known, Inv, Queued, Progress, room}
+use Rattle.th_incl.specs.Kept.{constraints_of, IsConsistent, Steps, Stops}
 use Rattle.th_incl.specs.declared.constraints.Constraints.{Constraints}
 use Rattle.th_incl.specs.declared.system.System.{System}
 use Rattle.th_incl.specs.declared.work.Work.{Work}
@@ -107,7 +106,7 @@ kept_stopped s limit i at w w' front queue ok lt t q inside e =
           (queue_back s.sets w.news.items w'.news.items w.queue.items front at q inside same),
     )
 
-pub over_stopped : (s : System) (limit i : ℕ) (w w' : Work) → IsConsistent s w → i < s.sets → Stops limit i w w' → IsOver (constraints_of s) limit
+pub over_stopped : (s : System) (limit i : ℕ) (w w' : Work) → IsConsistent s w → i < s.sets → Stops limit i w w' → HasMoreThan (constraints_of s) limit
 over_stopped s limit i w w' ok lt t =
     over_news (constraints_of s) w.sets.items w.news.items i (set_at w'.news.items i) limit ok.inv (omega (arith, lt, ok.inv.sets_len)) t.same t.ascending
     (omega (arith, t.over, ok.pairs))

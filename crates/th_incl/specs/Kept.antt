@@ -3,7 +3,7 @@ use Rattle.std.specs.Prelude.{◌≡◌, ◌≢◌, ℕ, ◌+◌, ◌<◌, ◌^�
 use Rattle.th_base.specs.IdSet.{has, union_of, IsAscending}
 use Rattle.th_incl.specs.Least.{set_at, In, pair_count}
 use Rattle.th_incl.specs.Parts.{SameMembers}
-use Rattle.th_incl.specs.Run.{Inv, Tables, Queued, Progress, IsOver}
+use Rattle.th_incl.specs.Run.{Inv, Tables, Queued, Progress}
 use Rattle.th_incl.specs.View.{SolverView}
 use Rattle.th_incl.specs.declared.constraints.Constraints.{Constraints}
 use Rattle.th_incl.specs.declared.system.System.{System}
@@ -13,7 +13,7 @@ abbrev pub constraints_of : System → Constraints
 constraints_of s = record { sets = s.sets; base = s.base; copies = s.copies; filters = s.filters }
 
 abbrev pub view_of : System → Work → SolverView
-view_of s w = record { constraints = constraints_of s; sets = w.sets.items }
+view_of s w = record { constraints = constraints_of s; sets = w.sets.items; grown = w.grown }
 
 -- between two steps of a run
 pub record IsConsistent (s : System) (w : Work) : Type 0 where

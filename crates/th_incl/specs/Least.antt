@@ -42,6 +42,14 @@ pub record IsClosed (c : Constraints) (family : ℕ → ℕ → Bool) : Type 0 w
 abbrev pub pair_count : List (List ℕ) → ℕ
 pair_count sets = sum_by length sets
 
+-- numbers that reach their sets, listed as sets, make more pairs than the limit
+pub record HasMoreThan (c : Constraints) (limit : ℕ) : Type 0 where
+  pub some : List (List ℕ)
+  pub count : length some ≡ c.sets
+  pub ascending : All IsAscending some
+  pub reach : (i x : ℕ) → In some i x → Reaches c i x
+  pub over : limit < pair_count some
+
 -- the answer is true exactly where the least sets hold at most `limit` pairs
 abbrev pub TellsWithin : Constraints → ℕ → Bool → Type 0
 TellsWithin c limit within = (sets : List (List ℕ)) → IsLeast c sets → (within ≡ true) ↔ (pair_count sets ≤ limit)

@@ -2,7 +2,7 @@
 use Rattle.std.specs.Prelude.{◌≡◌, ◌≢◌, ℕ, ◌<◌, ◌-◌, ◌^◌, ◌⊎◌, false, true, List, [], ◌++◌, length, Contains, sum_by}
 use Rattle.std.specs.List.{slice_index_or}
 use Rattle.th_base.specs.IdSet.{has, IsAscending}
-use Rattle.th_incl.specs.Least.{set_at, is_in, In, Reaches, IsInRange, IsLeast, pair_count}
+use Rattle.th_incl.specs.Least.{set_at, is_in, In, Reaches, IsInRange}
 use Rattle.th_incl.specs.Parts.{SameMembers, missing}
 use Rattle.th_incl.specs.declared.constraints.Inclusion.{Inclusion}
 use Rattle.th_incl.specs.declared.constraints.Constraints.{Constraints}
@@ -45,10 +45,6 @@ room sets = sum_by (λ s. 2 ^ 64 - length s) sets
 -- numbers came into a set, or nothing is left to do
 abbrev pub Progress : List (List ℕ) → List (List ℕ) → List ℕ → List ℕ → Type 0
 Progress sets sets' queue queue' = (room sets' < room sets) ⊎ ((room sets' ≡ room sets) × (queue' ≡ queue))
-
--- the least sets hold more pairs than the limit
-abbrev pub IsOver : Constraints → ℕ → Type 0
-IsOver c limit = (sets : List (List ℕ)) → IsLeast c sets → limit < pair_count sets
 
 -- numbers were put among the news of a set, which is queued where it had none before
 pub record Receives (to : ℕ) (ids : List ℕ) (news : List (List ℕ)) (queue : List ℕ) (news' : List (List ℕ)) (queue' : List ℕ) : Type 0 where

@@ -1,26 +1,36 @@
 -- What contracts see of a solver.
-use Rattle.std.specs.Prelude.{ℕ, ◌+◌, List, [], ◌∷◌, ◌++◌, replicate}
+use Rattle.std.specs.Prelude.{◌≡◌, ℕ, ◌+◌, true, false, List, [], ◌∷◌, ◌++◌, replicate}
+use Rattle.th_base.specs.IdSet.{has}
+use Rattle.th_incl.specs.Least.{set_at}
 use Rattle.th_incl.specs.declared.constraints.Inclusion.{Inclusion}
 use Rattle.th_incl.specs.declared.constraints.Constraints.{Constraints}
 
--- the constraints in the order of adding, and the sets as the last run left them
+-- the constraints in the order of adding, the sets as the last run left them, and those that grew
+-- since they were last asked for
 pub record SolverView : Type 0 where
   pub constraints : Constraints
   pub sets : List (List ℕ)
+  pub grown : List ℕ
 
 -- no constraints yet, and empty sets
 abbrev pub opening : ℕ → List (List ℕ) → SolverView
 opening sets filters = record {
   constraints = record { sets = sets; base = []; copies = []; filters = filters };
   sets = replicate sets [];
+  grown = [];
 }
 
 -- more sets, which are empty
 abbrev pub with_sets : SolverView → ℕ → SolverView
-with_sets v more = record {
+with_sets v more = record v {
   constraints = record v.constraints { sets = v.constraints.sets + more };
   sets = v.sets ++ replicate more [];
 }
+
+-- a set that isn't among those that grew is as it was, and each that was among them still is
+pub record Grows (sets : List (List ℕ)) (grown : List ℕ) (sets' : List (List ℕ)) (grown' : List ℕ) : Type 0 where
+  pub stays : (i : ℕ) → has grown i ≡ true → has grown' i ≡ true
+  pub others : (i : ℕ) → has grown' i ≡ false → set_at sets' i ≡ set_at sets i
 
 -- one base pair more
 abbrev pub with_base : SolverView → ℕ → ℕ → SolverView

@@ -23,6 +23,7 @@ pub(crate) fn grow(
     ensures view { OnOk result (view_of system.new work.new ≡ with_sets (view_of system.old work.old) sets) }
 {
     add_rows(alloc, &mut work.sets, &mut work.news, &mut system.out, sets)?;
+    work.grown.make_room(sets)?;
     system.sets = work.sets.len();
     Ok(())
 }

@@ -12,6 +12,7 @@
 mod additions;
 mod constraints;
 mod filter;
+mod grown;
 pub mod laws;
 mod news;
 mod passing;

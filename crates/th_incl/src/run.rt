@@ -1,8 +1,9 @@
 // A run: steps in rounds, until no set has news or the limit is reached.
 ghost use Rattle.std.specs.Prelude.{◌≡◌, ◌<◌, ◌≤◌, ℕ, [], true, false, length, IfOk, OnOk, MatchOption};
 ghost use Rattle.th_incl.specs.Kept.{constraints_of, IsConsistent, Kept, Settles, Stops, Steps};
-ghost use Rattle.th_incl.specs.Least.{In, is_in, IsLeast};
-ghost use Rattle.th_incl.specs.Run.{Progress, IsOver};
+ghost use Rattle.th_incl.specs.Least.{In, is_in, IsLeast, HasMoreThan};
+ghost use Rattle.th_incl.specs.Run.{Progress};
+ghost use Rattle.th_incl.specs.View.{Grows};
 
 use crate::news::News;
 use crate::passing::spread;
@@ -25,6 +26,7 @@ fn settle(
     requires news { set < length work.old.news.items }
     requires apart { (x : ℕ) → In work.old.news.items set x → is_in work.old.sets.items set x ≡ false }
     ensures within { OnOk result (work.new.pairs ≤ limit) }
+    ensures grows { OnOk result (Grows work.old.sets.items work.old.grown work.new.sets.items work.new.grown) }
     ensures settles { IfOk result (λ r. MatchOption r (Stops limit set work.old work.new) (Settles set work.old work.new)) }
 {
     let fresh = take_news(alloc, &mut work.news, set).into_set()?;
@@ -34,6 +36,7 @@ fn settle(
         return Ok(None);
     }
     absorb(&mut work.sets, set, &fresh)?;
+    work.grown.mark(set)?;
     work.pairs += count;
     Ok(Some(fresh))
 }
@@ -51,6 +54,7 @@ fn step(
     requires within { work.old.pairs ≤ limit }
     requires inside { set < system.now.sets }
     ensures within { OnOk result (work.new.pairs ≤ limit) }
+    ensures grows { OnOk result (Grows work.old.sets.items work.old.grown work.new.sets.items work.new.grown) }
     ensures steps { IfOk result (λ went. went ≡ true → Steps system.now set work.old work.new) }
     ensures stops { IfOk result (λ went. went ≡ false → Stops limit set work.old work.new) }
 {
@@ -79,8 +83,9 @@ fn round(alloc: Global, system: &System, work: &mut Work, limit: u64) -> Result<
     requires within { work.old.pairs ≤ limit }
     ensures kept { OnOk result (Kept system.now work.new) }
     ensures within { OnOk result (work.new.pairs ≤ limit) }
+    ensures grows { OnOk result (Grows work.old.sets.items work.old.grown work.new.sets.items work.new.grown) }
     ensures progress { IfOk result (λ went. went ≡ true → Progress work.old.sets.items work.new.sets.items [] work.new.queue.items) }
-    ensures over { IfOk result (λ went. went ≡ false → IsOver (constraints_of system.now) limit) }
+    ensures over { IfOk result (λ went. went ≡ false → HasMoreThan (constraints_of system.now) limit) }
 {
     let front = mem::replace(&mut work.queue, Vec::new(alloc));
     for set in &front {
@@ -104,8 +109,9 @@ pub(crate) fn rounds(
     requires within { work.old.pairs ≤ limit }
     ensures kept { OnOk result (Kept system.now work.new) }
     ensures within { OnOk result (work.new.pairs ≤ limit) }
+    ensures grows { OnOk result (Grows work.old.sets.items work.old.grown work.new.sets.items work.new.grown) }
     ensures least { IfOk result (λ done. done ≡ true → IsLeast (constraints_of system.now) work.new.sets.items) }
-    ensures over { IfOk result (λ done. done ≡ false → IsOver (constraints_of system.now) limit) }
+    ensures over { IfOk result (λ done. done ≡ false → HasMoreThan (constraints_of system.now) limit) }
 {
     while !work.queue.is_empty() {
         let went = round(alloc, system, work, limit)?;

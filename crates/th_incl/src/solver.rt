@@ -1,10 +1,11 @@
 // A solver that can be added to, and the solution from nothing.
-ghost use Rattle.std.specs.Prelude.{◌≡◌, ◌<◌, length, true, IfOk, OnOk};
-ghost use Rattle.th_incl.specs.Least.{IsLeast, IsInRange, TellsWithin};
-ghost use Rattle.th_incl.specs.View.{opening, with_sets, with_base, with_copy, with_bases, with_copies};
+ghost use Rattle.std.specs.Prelude.{◌≡◌, ◌<◌, [], length, true, false, IfOk, OnOk};
+ghost use Rattle.th_incl.specs.Least.{IsLeast, IsInRange, TellsWithin, HasMoreThan};
+ghost use Rattle.th_incl.specs.View.{Grows, opening, with_sets, with_base, with_copy, with_bases, with_copies};
 
 use crate::additions::{add_base, add_copy, grow};
 use crate::filter::filters_of;
+use crate::grown::Grown;
 use crate::run::rounds;
 use crate::system::System;
 use crate::work::Work;
@@ -56,6 +57,7 @@ impl Solver {
             sets: Vec::new(alloc),
             news: Vec::new(alloc),
             queue: Vec::new(alloc),
+            grown: Grown::new(alloc),
             pairs: 0,
         };
         grow(alloc, &mut system, &mut work, sets)?;
@@ -113,6 +115,7 @@ impl Solver {
     /// Makes the sets the least of all constraints so far.
     pub fn run(&mut self, alloc: Global) -> Result<(), AllocError>
         ensures least { OnOk result (IsLeast self.new.constraints self.new.sets) }
+        ensures grows { OnOk result (Grows self.old.sets self.old.grown self.new.sets self.new.grown) }
         ensures constraints { self.new.constraints ≡ self.old.constraints }
     {
         let done = self.run_within(alloc, u64::MAX)?;
@@ -129,6 +132,8 @@ impl Solver {
     pub fn run_within(&mut self, alloc: Global, limit: u64) -> Result<bool, AllocError>
         ensures within { IfOk result (λ within. TellsWithin self.old.constraints limit within) }
         ensures least { IfOk result (λ within. within ≡ true → IsLeast self.new.constraints self.new.sets) }
+        ensures more { IfOk result (λ within. within ≡ false → HasMoreThan self.old.constraints limit) }
+        ensures grows { OnOk result (Grows self.old.sets self.old.grown self.new.sets self.new.grown) }
         ensures constraints { self.new.constraints ≡ self.old.constraints }
     {
         if !self.is_whole {
@@ -141,6 +146,15 @@ impl Solver {
         let within = rounds(alloc, &self.system, &mut self.work, limit)?;
         self.is_whole = true;
         Ok(within)
+    }
+
+    /// The sets that runs may have changed since this was last asked, in no order; each that they
+    /// changed is among them. Takes no memory.
+    pub fn take_grown(&mut self, alloc: Global) -> Vec<usize>
+        ensures list { result.items ≡ self.old.grown }
+        ensures others { self.new ≡ record self.old { grown = [] } }
+    {
+        self.work.grown.take(alloc)
     }
 
     /// The sets as the last run left them, each ascending.

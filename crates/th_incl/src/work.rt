@@ -3,6 +3,7 @@ ghost use Rattle.std.specs.Prelude.{◌≡◌, ◌<◌, ◌^◌, [], length, sli
 ghost use Rattle.th_base.specs.IdSet.{union_of, intersection_of};
 ghost use Rattle.th_incl.specs.Least.{set_at};
 
+use crate::grown::Grown;
 use crate::news::News;
 use std::alloc::{AllocError, Global};
 use std::mem;
@@ -15,6 +16,8 @@ pub(crate) struct Work {
     pub(crate) news: Vec<News>,
     // The sets that have news; one may stand here more than once.
     pub(crate) queue: Vec<usize>,
+    // The sets that grew since they were last asked for.
+    pub(crate) grown: Grown,
     // How many numbers the sets hold together.
     pub(crate) pairs: u64,
 }

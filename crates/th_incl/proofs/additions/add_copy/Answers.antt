@@ -1,11 +1,10 @@
-use Rattle.std.proofs.Common.{◌≡◌, [], ◌∷◌, ◌++◌, ◌∙◌, length, sym, ap, subst, arith}
+use Rattle.std.proofs.Common.{◌≡◌, ◌∙◌, sym, subst, arith}
 use Rattle.std.specs.Vec.{with_items}
 use Rattle.std.proofs.lemmas.List.{with_items_is}
 use Rattle.th_incl.specs.Least.{set_at}
 use Rattle.th_incl.specs.Parts.{missing}
-use Rattle.th_incl.specs.Run.{Inv, Tables, Queued, Receives}
+use Rattle.th_incl.specs.Run.{Tables, Receives}
 use Rattle.th_incl.specs.Kept.{constraints_of, Kept}
-use Rattle.th_incl.specs.declared.system.System.{System}
 use Rattle.th_incl.specs.declared.work.Work.{Work}
 use Rattle.th_incl.proofs.Through.{read_at}
 use Rattle.th_incl.proofs.Added.{more_copy, copy_inv, copy_tables, received_in_queue}
@@ -25,7 +24,7 @@ returns-clause-kept c =
     let r4 = subst (λ l. Receives j.to ids l w.queue.items c.deliver.new.news c.deliver.new.queue.items) c.as_mut_slice.ensures.value r3 in
     let news_are : (with_items w.news c.deliver.new.news).items ≡ c.deliver.new.news = with_items_is w.news c.deliver.new.news (r4.news_len ∙ sym w.news.ok.0) in
     let r = subst (λ l. Receives j.to ids w.news.items w.queue.items l c.deliver.new.queue.items) (sym news_are) r4 in
-    let after : Work = record { sets = w.sets; news = with_items w.news c.deliver.new.news; queue = c.deliver.new.queue; pairs = w.pairs } in
+    let after : Work = record w { news = with_items w.news c.deliver.new.news; queue = c.deliver.new.queue } in
     subst (λ b. Kept record s { copies = b; out = c.put_out.new.out } after) (sym c.in_ok-push.ensures.ok) record {
       consistent = record {
         tables = subst (λ o. Tables (more_copy (constraints_of s) j) o) (sym c.in_ok-put_out.ensures) (copy_tables (constraints_of s) j s.out.items c.requires.from c.requires.to c.requires.filter v.tables);

@@ -1,7 +1,6 @@
 use Rattle.std.proofs.Common.{◌<◌, get_or, sym, subst}
 use Rattle.std.proofs.lemmas.List.{take_more}
 use Rattle.std.proofs.lemmas.List.Elements.{Contains-get_or}
-use Rattle.th_incl.specs.declared.constraints.Inclusion.{Inclusion}
 use Rattle.th_incl.proofs.Through.{spreads_more, delivers, no_inclusion}
 use Rattle.th_incl.proofs.passing.spread.Goals as goal
 

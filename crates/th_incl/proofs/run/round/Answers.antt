@@ -1,4 +1,4 @@
-use Rattle.std.proofs.Common.{◌≡◌, ◌++◌, refl, sym, ap, ◌∙◌}
+use Rattle.std.proofs.Common.{◌++◌, refl, sym, ap, ◌∙◌}
 use Rattle.th_base.proofs.Ascending.{has_at}
 use Rattle.th_incl.proofs.Rounds.{kept_stopped, over_stopped}
 use Rattle.th_incl.proofs.run.round.Goals as goal

@@ -2,6 +2,7 @@ use Rattle.std.proofs.Common.{◌≡◌, ◌<◌, ◌≤◌, ℕ, true, [], drop
 use Rattle.th_base.specs.IdSet.{has}
 use Rattle.th_incl.specs.Run.{Queued, Progress}
 use Rattle.th_incl.specs.Kept.{IsConsistent}
+use Rattle.th_incl.specs.View.{Grows}
 use Rattle.th_incl.proofs.run.round.Given as goal
 
 abbrev pub invariant-loop-set : goal.invariant-loop-set
@@ -10,5 +11,6 @@ invariant-loop-set l = record {
   queued : Queued l.system.sets l.work.news.items l.work.queue.items (drop l.set-index l.set-items);
   front : (k : ℕ) → has l.set-items k ≡ true → k < l.system.sets;
   within : l.work.pairs ≤ l.limit;
+  grows : Grows l.fn.work.sets.items l.fn.work.grown l.work.sets.items l.work.grown;
   progress : Progress l.fn.work.sets.items l.work.sets.items [] l.work.queue.items;
 }

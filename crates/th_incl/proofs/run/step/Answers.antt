@@ -1,4 +1,4 @@
-use Rattle.std.proofs.Common.{◌≡◌, ◌<◌, [], length, refl, sym, ap, ◌∙◌, subst, arith}
+use Rattle.std.proofs.Common.{◌≡◌, [], length, refl, sym, ap, ◌∙◌, subst, arith}
 use Rattle.std.specs.Vec.{with_items}
 use Rattle.std.specs.List.{Contains}
 use Rattle.std.proofs.lemmas.Bool.{iff_false}
@@ -66,6 +66,6 @@ returns-clause-steps c = λ e.
     let p5 = subst (λ l. Spreads mid.sets.items s.filters (out_at s.out.items i) fresh l mid.queue.items c.spread.new.news c.spread.new.queue.items) c.as_mut_slice.ensures.value p4 in
     let news_are : (with_items mid.news c.spread.new.news).items ≡ c.spread.new.news = with_items_is mid.news c.spread.new.news (p5.news_len ∙ sym mid.news.ok.0) in
     let p6 = subst (λ l. Spreads mid.sets.items s.filters (out_at s.out.items i) fresh mid.news.items mid.queue.items l c.spread.new.queue.items) (sym news_are) p5 in
-    let after : Work = record { sets = mid.sets; news = with_items mid.news c.spread.new.news; queue = c.spread.new.queue; pairs = mid.pairs } in
+    let after : Work = record mid { news = with_items mid.news c.spread.new.news; queue = c.spread.new.queue } in
     steps_by s i w mid after fresh v c.requires.inside t refl refl p6
     (λ z. absurd (iff_false c.is_empty.ensures c.if-is_empty.false (no_length fresh z)))

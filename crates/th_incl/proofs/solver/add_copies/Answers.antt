@@ -1,4 +1,4 @@
-use Rattle.std.proofs.Common.{◌≡◌, ◌<◌, length, sym, ap, ◌∙◌, subst, get_or}
+use Rattle.std.proofs.Common.{◌<◌, length, sym, ap, ◌∙◌, subst, get_or}
 use Rattle.std.specs.List.{Contains}
 use Rattle.std.proofs.lemmas.List.Elements.{Contains-get_or}
 use Rattle.th_incl.specs.declared.constraints.Inclusion.{Inclusion}

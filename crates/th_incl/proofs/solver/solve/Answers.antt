@@ -1,7 +1,6 @@
 use Rattle.std.proofs.Common.{◌≡◌, sym, ap, ◌∙◌, subst}
 use Rattle.th_incl.specs.Least.{IsLeast}
-use Rattle.th_incl.specs.View.{SolverView, opening, with_bases, with_copies}
-use Rattle.th_incl.specs.declared.constraints.Constraints.{Constraints}
+use Rattle.th_incl.specs.View.{opening, with_bases, with_copies}
 use Rattle.th_incl.proofs.solver.solve.Goals as goal
 
 pub returns : goal.returns

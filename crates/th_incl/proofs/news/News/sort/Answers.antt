@@ -1,6 +1,6 @@
 use Rattle.std.proofs.lemmas.List.Filters.{dedup_is}
 use Rattle.th_incl.proofs.Members.{IsAscending-dedup, same-dedup}
-use Rattle.std.proofs.Common.{sym, ap, ◌∙◌}
+use Rattle.std.proofs.Common.{ap, ◌∙◌}
 use Rattle.th_base.specs.IdSet.{has}
 use Rattle.th_incl.proofs.news.News.sort.Goals as goal
 
