@@ -59,4 +59,3 @@ pub use order::acyclic;
 pub use seq::Seq;
 pub use stack::Stack;
 pub use text::Text;
-

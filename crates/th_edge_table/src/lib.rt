@@ -23,4 +23,3 @@ pub use events::replay;
 pub use state::{BadEvent, CoreEvent, CoreSeat, CoreState, PARTS};
 pub use table::{EdgeTable, MOST_EDGES, Seat};
 pub use word::{Claim, Kind, Verdict, Word};
-

@@ -23,4 +23,3 @@ mod work;
 
 pub use constraints::{Constraints, Inclusion};
 pub use solver::{Solver, solve};
-

@@ -14,4 +14,3 @@ mod lists;
 mod summary;
 
 pub use summary::summaries;
-

@@ -20,4 +20,3 @@ pub use gate::{Gate, NoGate};
 pub use host::{HostFiles, HostSink};
 pub use memory::{MemFiles, MemSink};
 pub use sink::{Failed, Sink};
-

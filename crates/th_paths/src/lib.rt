@@ -16,4 +16,3 @@ mod search;
 mod trace;
 
 pub use index::{PathIndex, least_path};
-

@@ -21,4 +21,3 @@ mod word_shape;
 
 pub use command::{Command, UsageFault};
 pub use read::read_words;
-

@@ -18,4 +18,3 @@ pub use long::{
     add64, and64, compare64, div64, mul64, neg64, or64, rem64, shl64, shr64, sub64, ushr64, xor64,
 };
 pub use narrow::{low32, narrow_char, narrow8, narrow16, widen64};
-
