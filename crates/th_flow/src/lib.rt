@@ -15,6 +15,3 @@ mod sources;
 pub use entries::{entered_method, merge_registers};
 pub use heads::loop_heads;
 pub use sources::{callers, init_sites, predecessors};
-
-#[cfg(test)]
-mod tests;

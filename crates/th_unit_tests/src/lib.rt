@@ -14,6 +14,8 @@ mod command_lines;
 #[cfg(test)]
 mod edge_tables;
 #[cfg(test)]
+mod flows;
+#[cfg(test)]
 mod hierarchies;
 #[cfg(test)]
 mod host;

@@ -1,12 +1,12 @@
 ghost use Rattle.std.specs.Prelude.{◌≡◌, length, IfOk};
 
-use crate::{callers, entered_method, init_sites, loop_heads, merge_registers, predecessors};
 use std::alloc::Global;
 use std::process::Abort;
 use std::test::Fail;
 use th_base::{
     ClassId, ClassInfo, Hierarchy, IdSet, MethodId, MethodInfo, NodeId, Reg, Seq, Text, acyclic,
 };
+use th_flow::{callers, entered_method, init_sites, loop_heads, merge_registers, predecessors};
 use th_ir::{Facts, Method, Node, RegProgram, Stmt};
 
 // The successors of each node, a digit each: node 0 is the initialiser of class 0, the others are a
