@@ -1,0 +1,7 @@
+use Rattle.std.proofs.Common.{◌≡◌, ◌<◌, ◌^◌, take}
+use Rattle.std.specs.Str.Parse.{digits_value}
+use Rattle.th_harness.proofs.number_word.value_of.Given as goal
+
+-- the value of the digits so far
+abbrev pub invariant-loop-digit : goal.invariant-loop-digit
+invariant-loop-digit l = record { value : l.value ≡ digits_value 10 (take l.digit-index l.word); small : l.value < 10 ^ l.digit-index }
