@@ -1,0 +1,9 @@
+pub mod Lists
+pub mod Leading
+pub mod Moving
+pub mod Stepping
+pub mod Addressed
+pub mod Declaring
+pub mod Above
+pub mod Taking
+pub mod Entering
