@@ -100,6 +100,9 @@ method_info_at n (x ∷ ms) (suc j) m e =
 
 -- a field that a class declares
 pub record IsFieldHere (files : List ClassFile) (c : ℕ) (f : FieldInfo) : Type 0 where
+  pub info : ClassInfo
+  pub known : slice_get (hierarchy_of files) c ≡ Some info
+  pub inside : Contains info.fields f
   pub class : ClassFile
   pub stands : slice_get (all_classes files) c ≡ Some class
   pub member : Member
@@ -129,6 +132,9 @@ field_here files c k f at inside =
     let level : f.id.0 ≡ from + place.0 = omega arith in
     let zeroed : 0 + c ≡ c = omega arith in
     record {
+      info = k;
+      known = at;
+      inside = inside;
       class = class.0;
       stands = class.1;
       member = info.0;

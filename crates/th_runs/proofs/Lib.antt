@@ -7,3 +7,7 @@ pub mod Declaring
 pub mod Above
 pub mod Taking
 pub mod Entering
+pub mod Fits
+pub mod Shaping
+pub mod Calling
+pub mod Suiting

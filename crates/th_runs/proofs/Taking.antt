@@ -36,12 +36,16 @@ pub infos_length : (all : List ClassFile) (f m : ℕ) (cs : List ClassFile) → 
 infos_length all f m [] = refl
 infos_length all f m (c ∷ cs) = ap suc (infos_length all (f + length c.fields) (m + length c.methods) cs)
 
+pub class_named : (files : List ClassFile) (name : List ℕ) (k : ℕ) → number_named files name ≡ Some k → (c : ClassFile) × (slice_get (all_classes files) k ≡ Some c)
+class_named files name k e =
+    let found = at_position (λ (c : ClassFile). bytes_eq c.name name) 0 k (all_classes files) e in
+    let level : found.0 ≡ k = let zeroed = found.1 in omega (arith, zeroed) in
+    (found.2, ap (slice_get (all_classes files)) (sym level) ∙ found.3)
+
 pub number_within : (files : List ClassFile) (name : List ℕ) (k : ℕ) → number_named files name ≡ Some k → k < length (hierarchy_of files)
 number_within files name k e =
-    let found = at_position (λ (c : ClassFile). bytes_eq c.name name) 0 k (all_classes files) e in
-    let inside = slice_get_within (all_classes files) found.0 found.2 found.3 in
-    let level : found.0 ≡ k = let zeroed = found.1 in omega (arith, zeroed) in
-    subst (λ n. n < length (hierarchy_of files)) level (subst (λ n. found.0 < n) (sym (infos_length files 0 0 (all_classes files))) inside)
+    let class = class_named files name k e in
+    subst (λ n. k < n) (sym (infos_length files 0 0 (all_classes files))) (slice_get_within (all_classes files) k class.0 class.1)
 
 -- what a reference to a method names
 pub record IsInvoked (files : List ClassFile) (r : MemberRef) (m : Invoked) : Type 0 where
