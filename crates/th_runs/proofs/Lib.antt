@@ -11,3 +11,5 @@ pub mod Fits
 pub mod Shaping
 pub mod Calling
 pub mod Suiting
+pub mod Tables
+pub mod Going
