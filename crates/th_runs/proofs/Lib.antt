@@ -13,3 +13,4 @@ pub mod Calling
 pub mod Suiting
 pub mod Tables
 pub mod Going
+pub mod Running
