@@ -1,0 +1,16 @@
+pub mod Lists
+pub mod Leading
+pub mod Moving
+pub mod Stepping
+pub mod Addressed
+pub mod Declaring
+pub mod Above
+pub mod Taking
+pub mod Entering
+pub mod Fits
+pub mod Shaping
+pub mod Calling
+pub mod Suiting
+pub mod Tables
+pub mod Going
+pub mod Running

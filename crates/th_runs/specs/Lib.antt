@@ -1,0 +1,5 @@
+pub mod Addresses
+pub mod Entered
+pub mod Fitting
+pub mod FrameKinds
+pub mod Sound
