@@ -15,8 +15,6 @@ mod named;
 mod number_word;
 mod script;
 mod script_error;
-#[cfg(test)]
-mod tests;
 
 pub use launches::{activities, is_launchable};
 pub use named::class_named;

@@ -17,6 +17,8 @@ mod reached_code;
 #[cfg(test)]
 mod runs;
 #[cfg(test)]
+mod scripts;
+#[cfg(test)]
 mod tests;
 #[cfg(test)]
 mod values;

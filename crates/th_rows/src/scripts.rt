@@ -1,6 +1,6 @@
 // The form of scripts, and the handlers.
-use crate::{check_form, handlers};
 use std::test::Fail;
+use th_harness::{check_form, handlers};
 
 // A line before each script: the number of its first bad line, or none.
 #[test]
