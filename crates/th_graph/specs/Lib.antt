@@ -1,0 +1,4 @@
+pub mod Graphs
+pub mod Joined
+pub mod Produced
+pub mod Tables
