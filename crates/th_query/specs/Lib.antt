@@ -1,0 +1,14 @@
+pub mod FromSets
+pub mod Symbols
+pub mod Meets
+pub mod Unified
+pub mod Narrowed
+pub mod Settled
+pub mod Numbered
+pub mod Canonical
+pub mod Contradiction
+pub mod WellFormed
+pub mod Subsumed
+pub mod Initial
+pub mod Start
+pub mod Worked

@@ -1,0 +1,106 @@
+// From-sets: every site below a bound, and more above it.
+ghost use Rattle.std.specs.Prelude.{◌≡◌, ◌↔◌, ◌≤◌, IfOk, IsTrue, [], ◌++◌};
+ghost use Rattle.th_base.specs.IdSet.{has};
+ghost use Rattle.th_query.specs.FromSets.{upto};
+
+use std::alloc::{AllocError, Global};
+use std::marker::Model;
+use th_base::{IdSet, Same, TryCopy};
+
+/// A set of sites, which contracts see as the ascending list of its members. It is every site below
+/// `below`, then those of `more`, which aren't below it: so the set of every site takes no memory.
+#[derive(Debug, Drop)]
+pub struct Sites {
+    below: u32,
+    more: IdSet,
+}
+
+impl Model for Sites {
+    ghost use Rattle.std.specs.Prelude.{List, ℕ, ◌++◌, ◌≤◌};
+    ghost use Rattle.std.specs.List.{AllByRecursion};
+    ghost use Rattle.th_base.specs.IdSet.{IsAscending};
+    ghost use Rattle.th_query.specs.FromSets.{upto};
+
+    ghost Value = { List ℕ };
+
+    ghost view = { λ s. upto s.below ++ s.more };
+
+    ghost invariant = { λ s. AllByRecursion (λ x. s.below ≤ x) s.more };
+}
+
+impl Sites {
+    /// Every site below a bound. Takes no memory.
+    pub fn every(alloc: Global, below: u32) -> Sites
+        ensures { result ≡ upto below }
+    {
+        Sites {
+            below,
+            more: IdSet::new(alloc),
+        }
+    }
+
+    /// The sites of a set. Takes no memory.
+    pub fn of(set: IdSet) -> Sites
+        ensures { result ≡ set }
+    {
+        Sites {
+            below: 0,
+            more: set,
+        }
+    }
+
+    /// Whether a site is a member, by binary search.
+    pub fn contains(&self, site: u32) -> bool
+        ensures { result ≡ has self.now site }
+    {
+        site < self.below || self.more.contains(site)
+    }
+
+    /// Whether there are no members.
+    pub fn is_empty(&self) -> bool
+        ensures { IsTrue result ↔ (self.now ≡ []) }
+    {
+        self.below == 0 && self.more.is_empty()
+    }
+}
+
+impl TryCopy for Sites {
+    fn try_copy(&self, alloc: Global) -> Result<Sites, AllocError> {
+        Ok(Sites {
+            below: self.below,
+            more: self.more.copy(alloc)?,
+        })
+    }
+}
+
+impl Same for Sites {
+    fn same(&self, other: &Sites) -> bool {
+        if self.below <= other.below {
+            continues(self.more.ids(), self.below, other.below, other.more.ids())
+        } else {
+            continues(other.more.ids(), other.below, self.below, self.more.ids())
+        }
+    }
+}
+
+// Whether all below `low` and then these are all below `high` and then the rest.
+fn continues(ids: &[u32], low: u32, high: u32, rest: &[u32]) -> bool
+    requires { low ≤ high }
+    ensures { IsTrue result ↔ (upto low ++ ids.now ≡ upto high ++ rest.now) }
+{
+    for next in low..high {
+        let at = (next - low) as usize;
+        if at >= ids.len() || ids[at] != next {
+            return false;
+        }
+    }
+    let passed = (high - low) as usize;
+    are_same(&ids[passed..], rest)
+}
+
+// Whether the two lists are equal.
+fn are_same(left: &[u32], right: &[u32]) -> bool
+    ensures { IsTrue result ↔ (left.now ≡ right.now) }
+{
+    left == right
+}
