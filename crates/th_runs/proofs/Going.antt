@@ -44,7 +44,7 @@ use Rattle.th_syntax.proofs.Origins.{all_set, IsOpenedFrom, opened_from}
 use Rattle.th_syntax.proofs.Allowing.{allowed}
 use Rattle.th_runs.specs.Fitting.{AreOfKinds, BeginWithKinds, IsOfType, IsOfField, IsShaped}
 use Rattle.th_runs.specs.FrameKinds.{IsCode, IsAtKinds, IsCallingKinds, AreFramesOfKinds, IsOfKinds}
-use Rattle.th_runs.specs.Sound.{IsClosedCode, IsDescribed, IsSound}
+use Rattle.th_runs.specs.Sound.{IsClosed, IsDescribed, IsSound}
 use Rattle.th_runs.proofs.Fits.{fits_length, fits_append}
 use Rattle.th_runs.proofs.Suiting.{IsBegun, Suits, ends, goes, jumps, sets_static, sets_object, makes, opens, begins, hands_over, HasConstants, suits}
 use Rattle.th_runs.proofs.Tables.{IsFitted, fitted, IsKnownAt, along, IsEntry, entered}
@@ -92,7 +92,7 @@ leads_behind code i offset next falls e =
     falls.1 (option_to_list (offset_after code.instrs offset)) ∙ ap (λ (o : Option ℕ). falls.0 ++ option_to_list o) e in
     Contains-from_has (successors_of code.instrs (offset, i)) next (ap (λ xs. has xs next) leads ∙ has_last falls.0 next)
 
-pub reached_stands : (code : Code) {offset : ℕ} → IsClosedCode code → IsReached code.instrs offset → (i : Instr) × (instr_in code.instrs offset ≡ Some i)
+pub reached_stands : (code : Code) {offset : ℕ} → IsClosed code.instrs → IsReached code.instrs offset → (i : Instr) × (instr_in code.instrs offset ≡ Some i)
 reached_stands code closed start = closed.begins
 reached_stands code closed (onward {offset} {to} {i} before at leads) = closed.leads offset to i at leads
 
@@ -182,7 +182,7 @@ module _ (files : List ClassFile) (sound : IsSound files) where
     runs_code : code_of files method.0 ≡ Some here.runs.code
     runs_code = code_is files method.0 here.runs.owned here.runs.code here.runs.numbered here.runs.has_code
 
-    closed : IsClosedCode here.runs.code
+    closed : IsClosed here.runs.code.instrs
     closed = sound.closed method.0 here.runs.code runs_code
 
     fit : IsFitted here.runs.owned.member here.runs.code i here.local_kinds here.stack_kinds

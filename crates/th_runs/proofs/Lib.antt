@@ -14,3 +14,6 @@ pub mod Suiting
 pub mod Tables
 pub mod Going
 pub mod Running
+pub mod Spelt
+pub mod Closing
+pub mod Valued

@@ -24,12 +24,12 @@ use Rattle.th_runs.specs.Fitting.{type_slots, IsOfType}
 
 -- code that control doesn't leave but by its returns (Java specification 4.9.1): an instruction stands at its
 -- start and wherever one leads, and behind each behind which control goes on
-pub record IsClosedCode (code : Code) : Type 0 where
-  pub begins : (i : Instr) × (instr_in code.instrs 0 ≡ Some i)
-  pub leads : (offset to : ℕ) (i : Instr) → instr_in code.instrs offset ≡ Some i → Contains (successors_of code.instrs (offset, i)) to
-      → (j : Instr) × (instr_in code.instrs to ≡ Some j)
-  pub goes_on : (offset : ℕ) (i : Instr) → instr_in code.instrs offset ≡ Some i → FallsThrough i
-      → (next : ℕ) × (offset_after code.instrs offset ≡ Some next)
+pub record IsClosed (instrs : List (ℕ × Instr)) : Type 0 where
+  pub begins : (i : Instr) × (instr_in instrs 0 ≡ Some i)
+  pub leads : (offset to : ℕ) (i : Instr) → instr_in instrs offset ≡ Some i → Contains (successors_of instrs (offset, i)) to
+      → (j : Instr) × (instr_in instrs to ≡ Some j)
+  pub goes_on : (offset : ℕ) (i : Instr) → instr_in instrs offset ≡ Some i → FallsThrough i
+      → (next : ℕ) × (offset_after instrs offset ≡ Some next)
 
 -- the descriptor of a member that an instruction names is one of the profile
 abbrev pub IsDescribed : Use → Type 0
@@ -43,7 +43,7 @@ pub record IsSound (files : List ClassFile) : Type 0 where
   pub linked : IsLinked files
   pub kinds : (method : ℕ) (o : Owned) (code : Code) → slice_get (methods_of files) method ≡ Some o → o.member.code ≡ Some code
       → (t : ℕ → KindsAt) × HasKinds o.member code t
-  pub closed : (method : ℕ) (code : Code) → code_of files method ≡ Some code → IsClosedCode code
+  pub closed : (method : ℕ) (code : Code) → code_of files method ≡ Some code → IsClosed code.instrs
   pub described : (i : Instr) → IsReachedInstr files i → IsDescribed (use_of i)
   pub constants : (field : ℕ) (f : Owned) (c : Constant) → slice_get (fields_of files) field ≡ Some f → is_static f.member ≡ true
       → f.member.constant ≡ Some c → IsOfType f.member.descriptor (constant_value files c)
