@@ -1,3 +1,4 @@
+pub mod Alarming
 pub mod Begun
 pub mod Counting
 pub mod FileStatics
@@ -5,4 +6,5 @@ pub mod GraphEdges
 pub mod Leading
 pub mod Orders
 pub mod Stores
+pub mod TargetRows
 pub mod Written

@@ -1,4 +1,5 @@
 pub mod Graphs
 pub mod Joined
 pub mod Produced
+pub mod Searching
 pub mod Tables
