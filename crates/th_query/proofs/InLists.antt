@@ -17,7 +17,7 @@ abbrev pub In : {X : Type 0} → X → List X → Type 0
 In x [] = ⊥
 In x (y ∷ ys) = (x ≡ y) ⊎ In x ys
 
-in_at : {X : Type 0} (x : X) (xs : List X) (k : ℕ) → slice_get xs k ≡ Some x → In x xs
+pub in_at : {X : Type 0} (x : X) (xs : List X) (k : ℕ) → slice_get xs k ≡ Some x → In x xs
 in_at x [] k e = absurd cc
 in_at x (y ∷ ys) zero e = inl (sym (some_is y x e))
 in_at x (y ∷ ys) (suc k) e = inr (in_at x ys k e)

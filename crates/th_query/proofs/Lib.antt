@@ -17,3 +17,5 @@ pub mod Composed
 pub mod Matching
 pub mod Subsuming
 pub mod Limiting
+pub mod Starting
+pub mod Determined

@@ -17,3 +17,6 @@ pub use query::{
     MOST_REGISTERS, MOST_STATICS, Query, Slot, Sym,
 };
 pub use sites::Sites;
+
+#[cfg(test)]
+mod tests;
