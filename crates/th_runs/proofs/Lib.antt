@@ -20,3 +20,4 @@ pub mod Valued
 pub mod Members
 pub mod Texts
 pub mod Sounding
+pub mod WorkedActivity

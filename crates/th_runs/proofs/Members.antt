@@ -1,9 +1,9 @@
 -- Members of linked class files: one of each name and descriptor, and initialisers that are static; and the
 -- methods of the built-in classes, which only return.
 use Rattle.std.proofs.Common.{◌≡◌, ℕ, zero, suc, ◌+◌, ◌<◌, ◌⊎◌, inl, inr, ◌&&◌, ◌||◌, not, Bool, true, false, cond, if◌then◌else◌, List, [], ◌∷◌, ◌++◌, Option, None, Some, refl, sym, ap, subst, ◌∙◌, arith}
-use Rattle.std.specs.Prelude.{⊤, slice_get, length, map, codes, find, is_some, nat_le, Contains}
-use Rattle.std.specs.List.{AllByRecursion, flat_map, list_any}
-use Rattle.std.specs.Option.{option_and_then, option_map, option_map_or}
+use Rattle.std.specs.Prelude.{slice_get, map, codes, find, is_some, nat_le}
+use Rattle.std.specs.List.{AllByRecursion, list_any}
+use Rattle.std.specs.Option.{option_and_then, option_map_or}
 use Rattle.std.specs.Str.{bytes_eq}
 use Rattle.std.proofs.lemmas.Slice.Eq.{bytes_eq-Decides}
 use Rattle.th_base.specs.declared.built_in.TheConstants.{CONSTRUCTOR}
@@ -16,16 +16,14 @@ use Rattle.th_base.specs.Launchable as of_classes
 use Rattle.th_syntax.specs.declared.class_file.ClassFile.{ClassFile}
 use Rattle.th_syntax.specs.declared.class_file.Code.{Code}
 use Rattle.th_syntax.specs.declared.class_file.Member.{Member}
-use Rattle.th_syntax.specs.declared.instr.Instr.{Instr}
 use Rattle.th_syntax.specs.declared.instr.Instr.TheVariants.{Return}
-use Rattle.th_syntax.specs.Flags.{has_flag, is_static}
-use Rattle.th_syntax.specs.Flaws.{unless}
+use Rattle.th_syntax.specs.Flags.{is_static}
 use Rattle.th_syntax.specs.LinkChecks.{found_along, has_member, is_code_fit, is_initialiser_fit, field_refusals, method_refusals, member_refusals}
 use Rattle.th_syntax.specs.WellFormed.{is_class_initialiser}
-use Rattle.th_syntax.specs.Program.{built_in_classes, all_classes, empty_method, empty_constructor, empty_handler, Owned, owned_from, methods_of, hierarchy_of, is_launchable, code_of}
-use Rattle.th_syntax.proofs.Inverting.{some_is, and_then_some, both}
+use Rattle.th_syntax.specs.Program.{built_in_classes, all_classes, empty_method, empty_constructor, empty_handler, Owned, owned_from, hierarchy_of, is_launchable, code_of}
+use Rattle.th_syntax.proofs.Inverting.{some_is, both}
 use Rattle.th_runs.proofs.Above.{nil_left, nil_right, unless_nil, nil_at}
-use Rattle.th_runs.proofs.Declaring.{IsMethodHere, IsDeclared, declared, method_here, found_at, contains_at, same_text}
+use Rattle.th_runs.proofs.Declaring.{declared, method_here, contains_at, same_text}
 use Rattle.th_runs.proofs.Shaping.{IsIn, in_left}
 
 -- ---- where members stand
@@ -324,6 +322,22 @@ constructor_returns : OnlyReturns empty_constructor
 constructor_returns = empty_returns CONSTRUCTOR.now TAKES_NOTHING.now 1
 
 pub built_in_return : EachMethod OnlyReturns built_in_classes
-built_in_return =
-    ((constructor_returns, tt), ((constructor_returns, tt), ((constructor_returns, tt), ((constructor_returns, tt), ((constructor_returns, tt), ((constructor_returns, tt),
-    (tt, (tt, ((constructor_returns, tt), ((constructor_returns, tt), ((constructor_returns, handlers_return handlers), tt)))))))))))
+built_in_return = (
+  (constructor_returns, tt),
+  (
+    (constructor_returns, tt),
+    (
+      (constructor_returns, tt),
+      (
+        (constructor_returns, tt),
+        (
+          (constructor_returns, tt),
+          (
+            (constructor_returns, tt),
+            (tt, (tt, ((constructor_returns, tt), ((constructor_returns, tt), ((constructor_returns, handlers_return handlers), tt))))),
+          ),
+        ),
+      ),
+    ),
+  ),
+)

@@ -1,7 +1,7 @@
 -- Objects have the shape of their class: what is new has it, what is stored keeps it, and each instance
 -- field of a class above is found in them.
 use Rattle.std.proofs.Common.{◌≡◌, ℕ, zero, suc, ◌==◌, ◌⊎◌, inl, inr, not, Bool, true, false, cond, if◌then◌else◌, List, [], ◌∷◌, ◌++◌, map, Option, None, Some, refl, sym, ap, subst, ◌∙◌}
-use Rattle.std.specs.Prelude.{⊤, slice_get, find, filter, reverse, length, replicate, Contains}
+use Rattle.std.specs.Prelude.{slice_get, find, filter, reverse, replicate, Contains}
 use Rattle.std.specs.List.{AllByRecursion, flat_map}
 use Rattle.std.specs.Option.{option_map, option_map_or}
 use Rattle.std.proofs.lemmas.Bool.{eqb-true, eq-eqb}
@@ -14,14 +14,13 @@ use Rattle.th_base.specs.IdSet.{has}
 use Rattle.th_base.proofs.Orders.{has-cons_cases}
 use Rattle.th_syntax.specs.declared.class_file.ClassFile.{ClassFile}
 use Rattle.th_syntax.specs.declared.machine.Value.{Value}
-use Rattle.th_syntax.specs.declared.machine.Object.{Object}
 use Rattle.th_syntax.specs.declared.machine.Object.TheVariants.{Instance, Array}
 use Rattle.th_syntax.specs.Machine.{class_id}
 use Rattle.th_syntax.specs.Program.{Owned, fields_of, hierarchy_of}
 use Rattle.th_syntax.specs.Initial.{default_value, instance_fields, new_object}
 use Rattle.th_syntax.specs.Fields.{field_value, with_field}
 use Rattle.th_syntax.specs.Arrays.{array_descriptor}
-use Rattle.th_syntax.proofs.Inverting.{some_is, all_append, all_at}
+use Rattle.th_syntax.proofs.Inverting.{some_is, all_append}
 use Rattle.th_runs.specs.Fitting.{IsOfType, IsOfField, IsShaped}
 use Rattle.th_runs.proofs.Lists.{all_replicate}
 use Rattle.th_runs.proofs.Declaring.{IsFieldHere, field_here, contains_at, at_index}

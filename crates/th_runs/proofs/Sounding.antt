@@ -1,40 +1,34 @@
 -- Class files of the grammar that are linked and have kinds are a sound program.
-use Rattle.std.proofs.Common.{◌≡◌, ℕ, zero, suc, ◌+◌, ◌-◌, ◌<◌, ◌==◌, ◌⊎◌, inl, inr, ◌&&◌, ◌||◌, not, Bool, true, false, cond, if◌then◌else◌, List, [], ◌∷◌, ◌++◌, Option, None, Some, refl, sym, ap, subst, ◌∙◌, arith}
-use Rattle.std.specs.Prelude.{⊤, slice_get, length, map, replicate, nat_le, nat_lt, codes, Contains, find}
+use Rattle.std.proofs.Common.{◌≡◌, ℕ, zero, suc, ◌==◌, ◌⊎◌, inl, inr, ◌&&◌, ◌||◌, not, Bool, true, false, cond, if◌then◌else◌, List, [], ◌∷◌, ◌++◌, Option, None, Some, refl, sym, ap, subst, ◌∙◌, arith}
+use Rattle.std.specs.Prelude.{slice_get, length, map, nat_lt, Contains}
 use Rattle.std.specs.List.{AllByRecursion, list_all, slice_split, onto_first}
 use Rattle.std.specs.Option.{option_and_then, option_map, option_map_or}
-use Rattle.std.specs.Str.{bytes_eq, byte}
-use Rattle.std.proofs.lemmas.Bool.{eqb-true, eq-eqb, ne_eqb}
-use Rattle.th_base.specs.declared.built_in.TheConstants.{CONSTRUCTOR}
-use Rattle.th_base.specs.declared.handler.TheConstants.{TAKES_NOTHING}
+use Rattle.std.specs.Str.{byte}
+use Rattle.std.proofs.lemmas.Bool.{eqb-true, ne_eqb}
 use Rattle.th_base.specs.Handlers.{Handler, handlers, takes_bundle}
 use Rattle.th_base.specs.Subtype.{JavaType, ClassType, named_type}
 use Rattle.th_syntax.specs.declared.class_file.ClassFile.{ClassFile}
 use Rattle.th_syntax.specs.declared.class_file.Code.{Code}
 use Rattle.th_syntax.specs.declared.class_file.Constant.{Constant}
 use Rattle.th_syntax.specs.declared.class_file.Member.{Member}
-use Rattle.th_syntax.specs.declared.kind.SlotKind.{SlotKind}
-use Rattle.th_syntax.specs.declared.kind.SlotKind.TheVariants as kind
 use Rattle.th_syntax.specs.declared.instr.Instr.{Instr}
-use Rattle.th_syntax.specs.declared.instr.Instr.TheVariants.{Str, Return, GetStatic, PutStatic, GetField, PutField, InvokeVirtual, InvokeSpecial, InvokeInterface, InvokeStatic, New, ANewArray, CheckCast, InstanceOf}
-use Rattle.th_syntax.specs.declared.instr.MemberRef.{MemberRef}
+use Rattle.th_syntax.specs.declared.instr.Instr.TheVariants.{Str, Return, GetStatic, PutStatic, GetField, PutField, InvokeVirtual, InvokeSpecial, InvokeInterface, InvokeStatic, New}
 use Rattle.th_syntax.specs.Changes.{FallsThrough}
-use Rattle.th_syntax.specs.ClassGrammar.{IsClassFile}
 use Rattle.th_syntax.specs.Descriptors.{FieldType, byte_type, char_type, double_type, float_type, int_type, long_type, short_type, boolean_type, class_type, array_type, MethodType, type_bytes, is_floating, is_floating_method, only_if, field_type_of, method_type_of, method_at, types_at, type_at, element_at, name_before, base_type, result_at}
 use Rattle.th_syntax.specs.CodeBytes.{type_numbers, method_type_numbers, class_name_numbers}
-use Rattle.th_syntax.specs.Facts.{IsReachedIn, IsReachedInstr}
+use Rattle.th_syntax.specs.Facts.{IsReachedInstr}
 use Rattle.th_syntax.specs.Flags.{is_static, is_interface}
-use Rattle.th_syntax.specs.Flow.{IsReached, placed_at, instr_in, offset_after, successors_of}
+use Rattle.th_syntax.specs.Flow.{IsReached, instr_in, successors_of}
 use Rattle.th_syntax.specs.Initial.{constant_value}
-use Rattle.th_syntax.specs.Kinds.{KindsAt, NoKinds, OfKinds, merged_at}
-use Rattle.th_syntax.specs.KindRows.{slots_of_type, field_slots, result_slots}
-use Rattle.th_syntax.specs.KindTable.{argument_slots, entry_kinds, IsHeld, IsClosedTable, IsLeastTable, is_conflict, is_short_of_locals, conflicts_at, HasKinds}
-use Rattle.th_syntax.specs.LinkChecks.{Use, use_of, class_in_type}
+use Rattle.th_syntax.specs.Kinds.{KindsAt, NoKinds}
+use Rattle.th_syntax.specs.KindRows.{slots_of_type}
+use Rattle.th_syntax.specs.KindTable.{entry_kinds, IsHeld, IsClosedTable, is_conflict, is_short_of_locals, conflicts_at, HasKinds}
+use Rattle.th_syntax.specs.LinkChecks.{use_of, class_in_type}
 use Rattle.th_syntax.specs.Strings.{string_number_of}
 use Rattle.th_syntax.specs.Linking.{Stands}
-use Rattle.th_syntax.specs.Program.{built_in_classes, all_classes, empty_method, empty_constructor, empty_handler, Owned, fields_of, methods_of, code_of, number_named}
+use Rattle.th_syntax.specs.Program.{built_in_classes, all_classes, empty_constructor, empty_handler, Owned, fields_of, methods_of, number_named}
 use Rattle.th_syntax.specs.WellFormed.{is_name_byte, is_field_name, is_class_name}
-use Rattle.th_syntax.proofs.Inverting.{some_is, and_then_some, map_some, both}
+use Rattle.th_syntax.proofs.Inverting.{some_is, and_then_some, both}
 use Rattle.th_syntax.proofs.MergingKinds.{at_self}
 use Rattle.th_syntax.proofs.Visiting.{placed_of}
 use Rattle.th_runs.specs.Entered.{InterfacesRunNoInstance}
@@ -46,7 +40,7 @@ use Rattle.th_runs.proofs.Declaring.{found_at}
 use Rattle.th_runs.proofs.Shaping.{IsIn}
 use Rattle.th_runs.proofs.Spelt.{IsWellNamed}
 use Rattle.th_runs.proofs.Valued.{IsGoodCode, IsGoodMethod, method_read, field_read}
-use Rattle.th_runs.proofs.Members.{at_append, IsOwned, owned_in, all_in, initialiser_static, initialisers_are, IsLaunched, launches_are, OnlyReturns, EachMethod, built_in_return}
+use Rattle.th_runs.proofs.Members.{at_append, IsOwned, owned_in, all_in, initialiser_static, initialisers_are, launches_are, OnlyReturns, EachMethod, built_in_return}
 use Rattle.th_runs.proofs.Texts.{text_there}
 
 -- ---- code of one `return`
@@ -71,7 +65,7 @@ not_falling falls = let e : [] ≡ falls.0 ++ 0 ∷ [] = falls.1 (0 ∷ []) in n
     never [] e = cc
     never (x ∷ front) e = cc
 
-return_closed : IsClosed one_return
+pub return_closed : IsClosed one_return
 return_closed = record {
   begins = (Return, refl);
   leads = λ offset to i at leads. absurd (leads_nowhere offset to (subst (λ (j : Instr). Contains (successors_of one_return (offset, j)) to) (return_in offset i at) leads));
@@ -130,9 +124,25 @@ handlers_kinds [] all = tt
 handlers_kinds (h ∷ hs) all = (has_kinds (empty_handler h) (locals_for h) refl all.0, handlers_kinds hs all.1)
 
 built_in_kinds : EachMethod HasItsKinds built_in_classes
-built_in_kinds =
-    ((constructor_kinds, tt), ((constructor_kinds, tt), ((constructor_kinds, tt), ((constructor_kinds, tt), ((constructor_kinds, tt), ((constructor_kinds, tt),
-    (tt, (tt, ((constructor_kinds, tt), ((constructor_kinds, tt), ((constructor_kinds, handlers_kinds handlers handler_fits), tt)))))))))))
+built_in_kinds = (
+  (constructor_kinds, tt),
+  (
+    (constructor_kinds, tt),
+    (
+      (constructor_kinds, tt),
+      (
+        (constructor_kinds, tt),
+        (
+          (constructor_kinds, tt),
+          (
+            (constructor_kinds, tt),
+            (tt, (tt, ((constructor_kinds, tt), ((constructor_kinds, tt), ((constructor_kinds, handlers_kinds handlers handler_fits), tt))))),
+          ),
+        ),
+      ),
+    ),
+  ),
+)
 
 -- ---- descriptors
 
@@ -231,17 +241,37 @@ abbrev RunsNothing : ClassFile → Type 0
 RunsNothing c = is_interface c ≡ true → c.methods ≡ []
 
 interfaces_run_nothing : AllByRecursion RunsNothing built_in_classes
-interfaces_run_nothing =
-    ((λ e. absurd (let h : false ≡ true = e in cc)),
-    ((λ e. absurd (let h : false ≡ true = e in cc)),
-    ((λ e. absurd (let h : false ≡ true = e in cc)),
-    ((λ e. absurd (let h : false ≡ true = e in cc)),
-    ((λ e. absurd (let h : false ≡ true = e in cc)),
-    ((λ e. absurd (let h : false ≡ true = e in cc)),
-    ((λ e. refl), ((λ e. refl),
-    ((λ e. absurd (let h : false ≡ true = e in cc)),
-    ((λ e. absurd (let h : false ≡ true = e in cc)),
-    ((λ e. absurd (let h : false ≡ true = e in cc)), tt)))))))))))
+interfaces_run_nothing = (
+  (λ e. absurd (let h : false ≡ true = e in cc)),
+  (
+    (λ e. absurd (let h : false ≡ true = e in cc)),
+    (
+      (λ e. absurd (let h : false ≡ true = e in cc)),
+      (
+        (λ e. absurd (let h : false ≡ true = e in cc)),
+        (
+          (λ e. absurd (let h : false ≡ true = e in cc)),
+          (
+            (λ e. absurd (let h : false ≡ true = e in cc)),
+            (
+              (λ e. refl),
+              (
+                (λ e. refl),
+                (
+                  (λ e. absurd (let h : false ≡ true = e in cc)),
+                  (
+                    (λ e. absurd (let h : false ≡ true = e in cc)),
+                    ((λ e. absurd (let h : false ≡ true = e in cc)), tt),
+                  ),
+                ),
+              ),
+            ),
+          ),
+        ),
+      ),
+    ),
+  ),
+)
 
 none_in : {A : Type 0} (x : A) → IsIn [] x → ⊥
 none_in x (j, e) = cc

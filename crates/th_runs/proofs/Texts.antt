@@ -1,6 +1,6 @@
 -- The text of each `ldc` that is reached is among the String constants of the program.
-use Rattle.std.proofs.Common.{◌≡◌, ℕ, zero, suc, ◌+◌, ◌==◌, Bool, true, false, cond, if◌then◌else◌, List, [], ◌∷◌, ◌++◌, Option, None, Some, refl, sym, ap, subst, ◌∙◌}
-use Rattle.std.specs.Prelude.{slice_get, find, filter, filter_map, flat_map}
+use Rattle.std.proofs.Common.{◌≡◌, ℕ, zero, suc, ◌+◌, ◌==◌, Bool, true, false, cond, List, [], ◌∷◌, Option, None, Some, refl, sym, ap, subst, ◌∙◌}
+use Rattle.std.specs.Prelude.{filter_map, flat_map}
 use Rattle.std.specs.List.{position_from, cons_option}
 use Rattle.std.specs.Option.{option_map_or}
 use Rattle.std.specs.Ordering.{nat_cmp}
@@ -16,11 +16,11 @@ use Rattle.th_syntax.specs.declared.class_file.Code.{Code}
 use Rattle.th_syntax.specs.declared.class_file.Member.{Member}
 use Rattle.th_syntax.specs.declared.instr.Instr.{Instr}
 use Rattle.th_syntax.specs.declared.instr.Instr.TheVariants.{Str}
-use Rattle.th_syntax.specs.Flow.{IsReached, instr_in, placed_at, reached_offsets, reached_code}
+use Rattle.th_syntax.specs.Flow.{IsReached, instr_in, reached_offsets, reached_code}
 use Rattle.th_syntax.specs.Strings.{loaded_text, texts_of_field, texts_of_method, texts_of_class, placed_by, with_text, ascending_texts, string_constants, string_number_of}
 use Rattle.th_syntax.proofs.Visiting.{placed_of, found_from_path}
 use Rattle.th_runs.proofs.Declaring.{found_at}
-use Rattle.th_runs.proofs.Shaping.{IsIn, in_left, in_right, in_flat_map, in_filter}
+use Rattle.th_runs.proofs.Shaping.{IsIn, in_right, in_flat_map, in_filter}
 
 -- ---- ascending texts
 

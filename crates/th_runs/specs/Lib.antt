@@ -5,3 +5,4 @@ pub mod FrameKinds
 pub mod Sound
 pub mod Verified
 pub mod Always
+pub mod Worked

@@ -14,6 +14,8 @@ ghost use Rattle.th_syntax.specs.Step.{step};
 ghost use Rattle.th_syntax.specs.declared.class_file.ClassFile.{ClassFile};
 ghost use Rattle.th_syntax.specs.declared.machine.State.{State};
 
+pub mod worked;
+
 /// Where a reachable state of any program holds an address, an object stands there.
 pub fn addresses_lead_to_objects()
     ensures { (lifecycle : Lifecycle) (files : List ClassFile) (s : State) → IsReachable lifecycle files s → HasObjects s }
