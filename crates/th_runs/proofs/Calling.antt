@@ -1,19 +1,17 @@
 -- The slots of a call: its arguments lie on top, in order, and what is left of the stack under them.
-use Rattle.std.proofs.Common.{◌≡◌, ℕ, zero, suc, ◌+◌, ◌<◌, ◌⊎◌, inl, inr, not, Bool, true, false, if◌then◌else◌, List, [], ◌∷◌, ◌++◌, length, Option, None, Some, refl, sym, ap, subst, ◌∙◌, arith, length-append}
+use Rattle.std.proofs.Common.{◌≡◌, ℕ, zero, suc, ◌+◌, inl, inr, not, Bool, true, false, if◌then◌else◌, List, [], ◌∷◌, ◌++◌, length, Option, None, Some, refl, sym, ap, subst, ◌∙◌, arith, length-append}
 use Rattle.std.specs.Prelude.{slice_get, take, drop, reverse, sum_by, fold}
 use Rattle.std.specs.List.{flat_map}
-use Rattle.std.specs.Option.{option_and_then, option_map, option_map_or}
+use Rattle.std.specs.Option.{option_and_then, option_map_or}
 use Rattle.std.proofs.lemmas.List.{length-reverse, reverse-reverse}
 use Rattle.th_base.specs.declared.class.MethodInfo.{MethodInfo}
 use Rattle.th_syntax.specs.declared.class_file.ClassFile.{ClassFile}
 use Rattle.th_syntax.specs.declared.class_file.Code.{Code}
-use Rattle.th_syntax.specs.declared.class_file.Member.{Member}
 use Rattle.th_syntax.specs.declared.kind.SlotKind.{SlotKind}
 use Rattle.th_syntax.specs.declared.kind.SlotKind.TheVariants as kind
 use Rattle.th_syntax.specs.declared.machine.Value.{Value}
 use Rattle.th_syntax.specs.declared.machine.Value.TheVariants.{Null as NullValue, Address}
 use Rattle.th_syntax.specs.declared.machine.Slot.{Slot}
-use Rattle.th_syntax.specs.declared.machine.Slot.TheVariants.{Holds}
 use Rattle.th_syntax.specs.Descriptors.{FieldType, byte_type, char_type, double_type, float_type, int_type, long_type, short_type, boolean_type, class_type, array_type, MethodType, is_floating_method, method_type_of, only_if, size_of}
 use Rattle.th_syntax.specs.Flags.{is_static}
 use Rattle.th_syntax.specs.KindRows.{ref, slots_of_type, parameter_slots, result_slots}
@@ -43,8 +41,7 @@ front_drop (x ∷ xs) ys (suc n) e = front_drop xs ys n (omega arith)
 pub arguments_fit : (takes rest : List SlotKind) (stack : List Slot) (slots : ℕ) → slots ≡ length takes → AreOfKinds (reverse takes ++ rest) stack → AreOfKinds takes (reverse (take slots stack)) × AreOfKinds rest (drop slots stack)
 arguments_fit takes rest stack slots e fit =
     let level : slots ≡ length (reverse takes) = e ∙ sym (length-reverse takes) in
-    let taken : AreOfKinds (reverse takes) (take slots stack) = subst (λ ks. AreOfKinds ks (take slots stack)) (front_take (reverse takes) rest slots level) (fits_take slots (reverse takes ++ rest) stack fit) in
-    (
+    let taken : AreOfKinds (reverse takes) (take slots stack) = subst (λ ks. AreOfKinds ks (take slots stack)) (front_take (reverse takes) rest slots level) (fits_take slots (reverse takes ++ rest) stack fit) in (
       subst (λ ks. AreOfKinds ks (reverse (take slots stack))) (reverse-reverse takes) (fits_reverse (reverse takes) (take slots stack) taken),
       subst (λ ks. AreOfKinds ks (drop slots stack)) (front_drop (reverse takes) rest slots level) (fits_drop slots (reverse takes ++ rest) stack fit),
     )

@@ -1,6 +1,6 @@
 -- Slots of kinds: their parts, what is pushed and popped, and what is stored into locals.
-use Rattle.std.proofs.Common.{◌≡◌, ℕ, ℤ, zero, suc, ◌+◌, ◌-◌, ◌≤◌, ◌⊎◌, inl, inr, ◌&&◌, not, Bool, true, false, cond, if◌then◌else◌, List, [], ◌∷◌, ◌++◌, Option, None, Some, slice_get, slice_set, refl, sym, ap, subst, ◌∙◌, arith, append_assoc}
-use Rattle.std.specs.Prelude.{⊤, pos, nat_le, length, map, take, drop, reverse, replicate, get_or, set}
+use Rattle.std.proofs.Common.{◌≡◌, ℕ, ℤ, zero, suc, ◌+◌, ◌-◌, ◌⊎◌, inl, inr, not, Bool, true, false, if◌then◌else◌, List, [], ◌∷◌, ◌++◌, Option, None, Some, slice_get, slice_set, refl, sym, ap, subst, ◌∙◌, arith, append_assoc}
+use Rattle.std.specs.Prelude.{pos, nat_le, length, take, drop, reverse}
 use Rattle.std.specs.Option.{option_and_then, option_map_or}
 use Rattle.std.proofs.lemmas.List.{reverse-append, length-set, take-append-drop}
 use Rattle.th_base.specs.ValueKinds.{is_reference, is_long}
@@ -13,12 +13,12 @@ use Rattle.th_syntax.specs.declared.machine.Value.TheVariants.{Int as IntValue, 
 use Rattle.th_syntax.specs.declared.machine.Slot.{Slot}
 use Rattle.th_syntax.specs.declared.machine.Slot.TheVariants.{Holds, SecondHalf}
 use Rattle.th_syntax.specs.Kinds.{is_same_kind, are_same_kinds}
-use Rattle.th_syntax.specs.KindRows.{KindRow, int, long, ref, slots_of, slots_taken, stack_after, without_second, without_first, changed, written, stored as stored_kinds, is_other_local, are_other_operands, move_row}
+use Rattle.th_syntax.specs.KindRows.{int, long, ref, slots_taken, stack_after, without_second, without_first, changed, stored as stored_kinds, is_other_local, are_other_operands, move_row}
 use Rattle.th_syntax.specs.Initial.{default_value}
-use Rattle.th_syntax.specs.Slots.{int_of, long_of, reference_of, value_in, pushed, Popped, popped_with, popped, popped_int, popped_long, popped_reference, dropped, copied_below, swapped, stack_moved, local_value, local_int, local_long, local_reference, stored, locals_with}
-use Rattle.th_syntax.proofs.Inverting.{some_is, all_append}
+use Rattle.th_syntax.specs.Slots.{reference_of, pushed, Popped, popped, popped_int, popped_long, popped_reference, dropped, copied_below, stack_moved, stored}
+use Rattle.th_syntax.proofs.Inverting.{some_is}
 use Rattle.th_syntax.proofs.MergingKinds.{same_kind_is}
-use Rattle.th_runs.specs.Fitting.{IsOfKind, AreOfKinds, BeginWithKinds, type_slots, IsOfType}
+use Rattle.th_runs.specs.Fitting.{IsOfKind, AreOfKinds, BeginWithKinds, IsOfType}
 
 -- ---- lists of slots
 

@@ -1,6 +1,6 @@
 -- A code frame whose slots are of the kinds of its instruction has a step, after which all frames are again
 -- of the kinds of theirs.
-use Rattle.std.proofs.Common.{◌≡◌, ℕ, zero, suc, ◌+◌, ◌<◌, ◌≤◌, ◌⊎◌, inl, inr, ◌&&◌, ◌==◌, Bool, true, false, if◌then◌else◌, List, [], ◌∷◌, ◌++◌, Option, None, Some, slice_get, slice_set, refl, sym, ap, subst, ◌∙◌, arith}
+use Rattle.std.proofs.Common.{◌≡◌, ℕ, zero, suc, ◌≤◌, ◌⊎◌, inl, inr, ◌&&◌, ◌==◌, Bool, true, false, if◌then◌else◌, List, [], ◌∷◌, ◌++◌, Option, None, Some, slice_get, slice_set, refl, sym, ap, subst, ◌∙◌, arith}
 use Rattle.std.specs.Prelude.{⊤, length, drop, reverse, option_to_list, Contains}
 use Rattle.std.specs.List.{AllByRecursion}
 use Rattle.std.specs.Option.{option_and_then, option_map, option_map_or}
@@ -13,41 +13,37 @@ use Rattle.th_syntax.specs.declared.class_file.ClassFile.{ClassFile}
 use Rattle.th_syntax.specs.declared.class_file.Code.{Code}
 use Rattle.th_syntax.specs.declared.class_file.Constant.{Constant}
 use Rattle.th_syntax.specs.declared.instr.Instr.{Instr}
-use Rattle.th_syntax.specs.declared.instr.Instr.TheVariants.{PutStatic, InvokeVirtual, InvokeSpecial, InvokeInterface, InvokeStatic, New, Str}
-use Rattle.th_syntax.specs.declared.kind.SlotKind.{SlotKind}
 use Rattle.th_syntax.specs.declared.machine.Value.{Value}
 use Rattle.th_syntax.specs.declared.machine.Value.TheVariants.{Address}
 use Rattle.th_syntax.specs.declared.machine.Slot.{Slot}
 use Rattle.th_syntax.specs.declared.machine.Slot.TheVariants.{Holds}
-use Rattle.th_syntax.specs.declared.machine.Object.{Object}
 use Rattle.th_syntax.specs.declared.machine.Mark.TheVariants.{InProgress}
 use Rattle.th_syntax.specs.declared.machine.Frame.{Frame}
 use Rattle.th_syntax.specs.declared.machine.Frame.TheVariants.{Code as CodeFrame, Init as InitFrame, Launch as LaunchFrame}
 use Rattle.th_syntax.specs.declared.machine.State.{State}
 use Rattle.th_syntax.specs.Flags.{is_static}
 use Rattle.th_syntax.specs.Flow.{IsReached, start, onward, leads_to, instr_in, offset_after, successors_of}
-use Rattle.th_syntax.specs.Kinds.{KindsAt, OfKinds}
 use Rattle.th_syntax.specs.KindRows.{row_of, result_slots, slots_taken, slots_given, locals_after, stack_after}
-use Rattle.th_syntax.specs.KindTable.{argument_slots, HasKinds}
+use Rattle.th_syntax.specs.KindTable.{argument_slots}
 use Rattle.th_syntax.specs.Facts.{IsReachedIn, IsReachedInstr}
 use Rattle.th_syntax.specs.Machine.{method_id, with_frames, ended_state}
 use Rattle.th_syntax.specs.Slots.{locals_with}
 use Rattle.th_syntax.specs.Program.{Owned, all_classes, fields_of, methods_of, code_of, instr_at, next_offset}
 use Rattle.th_syntax.specs.Initial.{constant_value}
-use Rattle.th_syntax.specs.Effects.{Top, Effect, Stuck, Ends, GoesOn, Jumps, SetsStatic, SetsObject, Makes, Opens, Calls, Returns, after, goes_on as goes_behind, returned, opened, opened_value, opened_statics}
+use Rattle.th_syntax.specs.Effects.{Top, Effect, Stuck, Ends, GoesOn, Jumps, SetsStatic, SetsObject, Makes, Opens, Calls, Returns, after, goes_on as goes_behind, returned, opened, opened_statics}
 use Rattle.th_syntax.specs.Changes.{FallsThrough, Takes, by_virtual, by_special, by_interface, by_static, IsAllowed, stuck, ends as may_end, goes_on, jumps as may_jump, sets_static as may_set_static, sets_object as may_set_object, makes_instance, makes_array, opens as may_open, calls as may_call, returns, top_at}
 use Rattle.th_syntax.specs.Step.{effect}
 use Rattle.th_syntax.specs.LinkChecks.{use_of}
 use Rattle.th_syntax.specs.Linking.{Stands}
-use Rattle.th_syntax.proofs.Inverting.{some_is, set_cases, all_append}
-use Rattle.th_syntax.proofs.Origins.{all_set, IsOpenedFrom, opened_from}
+use Rattle.th_syntax.proofs.Inverting.{some_is, all_append}
+use Rattle.th_syntax.proofs.Origins.{all_set, opened_from}
 use Rattle.th_syntax.proofs.Allowing.{allowed}
 use Rattle.th_runs.specs.Fitting.{AreOfKinds, BeginWithKinds, IsOfType, IsOfField, IsShaped}
-use Rattle.th_runs.specs.FrameKinds.{IsCode, IsAtKinds, IsCallingKinds, AreFramesOfKinds, IsOfKinds}
-use Rattle.th_runs.specs.Sound.{IsClosed, IsDescribed, IsSound}
+use Rattle.th_runs.specs.FrameKinds.{IsAtKinds, IsCallingKinds, AreFramesOfKinds, IsOfKinds}
+use Rattle.th_runs.specs.Sound.{IsClosed, IsSound}
 use Rattle.th_runs.proofs.Fits.{fits_length, fits_append}
-use Rattle.th_runs.proofs.Suiting.{IsBegun, Suits, ends, goes, jumps, sets_static, sets_object, makes, opens, begins, hands_over, HasConstants, suits}
-use Rattle.th_runs.proofs.Tables.{IsFitted, fitted, IsKnownAt, along, IsEntry, entered}
+use Rattle.th_runs.proofs.Suiting.{Suits, ends, goes, jumps, sets_static, sets_object, makes, opens, begins, hands_over, HasConstants, suits}
+use Rattle.th_runs.proofs.Tables.{IsFitted, fitted, along, entered}
 
 -- ---- flow
 
@@ -217,8 +213,7 @@ module _ (files : List ClassFile) (sound : IsSound files) where
         → (w : State) × (goes_behind files (top_at s method offset locals stack below) u locals_after_it stack_after_it ≡ Some w) × IsOfKinds files w
     behind falls u locals_after_it stack_after_it locals_fit count stack_fits statics statics_count heap marks_count =
         let next = closed.goes_on offset i at falls in
-        let leads = leads_behind here.runs.code i offset next.0 falls next.1 in
-        (
+        let leads = leads_behind here.runs.code i offset next.0 falls next.1 in (
           with_frames u (CodeFrame method next.0 locals_after_it stack_after_it ∷ below),
           ap (option_map (λ (n : ℕ). with_frames u (CodeFrame method n locals_after_it stack_after_it ∷ below))) (behind_in files method.0 offset here.runs.code next.0 runs_code next.1),
           record {
@@ -247,20 +242,22 @@ module _ (files : List ClassFile) (sound : IsSound files) where
         let given : AreOfKinds (slots_given (row_of waits.i) waits.stack_kinds) results =
         subst (λ ks. AreOfKinds ks results) (sym waits.result) (subst (λ (o : Owned). AreOfKinds (reverse (result_slots o.member.descriptor)) results) same results_fit) in
         let whole : AreOfKinds (stack_after (row_of waits.i) waits.stack_kinds) (results ++ stack_below) =
-        fits_append (slots_given (row_of waits.i) waits.stack_kinds) results (drop (slots_taken (row_of waits.i)) waits.stack_kinds) stack_below given waits.stack_fits in
-        (
+        fits_append (slots_given (row_of waits.i) waits.stack_kinds) results (drop (slots_taken (row_of waits.i)) waits.stack_kinds) stack_below given waits.stack_fits in (
           CodeFrame caller next.0 locals_below (results ++ stack_below) ∷ frames,
           ap (option_map (λ (n : ℕ). CodeFrame caller n locals_below (results ++ stack_below) ∷ frames)) (behind_in files caller.0 waiting waits.runs.code next.0 its_code next.1),
-          (record {
-            runs = waits.runs;
-            local_kinds = known.local_kinds;
-            stack_kinds = known.stack_kinds;
-            known = known.is;
-            locals_fit = known.locals_too locals_below waits.locals_fit;
-            locals_count = waits.locals_count;
-            stack_fits = known.stack_too (results ++ stack_below) whole;
-            room = subst (λ n. n ≤ waits.runs.code.max_stack) (sym (fits_length (stack_after (row_of waits.i) waits.stack_kinds) (results ++ stack_below) whole)) its_fit.room;
-          }, all.1),
+          (
+            record {
+              runs = waits.runs;
+              local_kinds = known.local_kinds;
+              stack_kinds = known.stack_kinds;
+              known = known.is;
+              locals_fit = known.locals_too locals_below waits.locals_fit;
+              locals_count = waits.locals_count;
+              stack_fits = known.stack_too (results ++ stack_below) whole;
+              room = subst (λ n. n ≤ waits.runs.code.max_stack) (sym (fits_length (stack_after (row_of waits.i) waits.stack_kinds) (results ++ stack_below) whole)) its_fit.room;
+            },
+            all.1,
+          ),
         )
     handed_by results (InitFrame c stage ∷ frames) results_fit all = (InitFrame c stage ∷ frames, refl, all)
     handed_by results (LaunchFrame c stage ∷ frames) results_fit all = (LaunchFrame c stage ∷ frames, refl, all)
@@ -272,17 +269,17 @@ module _ (files : List ClassFile) (sound : IsSound files) where
     goes_to _ ends flow = (ended_state s, refl, record { frames = good.frames; statics = good.statics; statics_count = good.statics_count; heap = good.heap; marks_count = good.marks_count })
     goes_to _ (goes {locals = locals_after_it} {stack = stack_after_it} locals_fit count stack_fits) falls =
         behind falls s locals_after_it stack_after_it locals_fit count stack_fits good.statics good.statics_count good.heap good.marks_count
-    goes_to _ (jumps {target} {stack = stack_after_it} locals_fit stack_fits) leads =
-        (
-          with_frames s (CodeFrame method target locals stack_after_it ∷ below), refl,
-          record {
-            frames = (moved target locals stack_after_it (Contains-from_has (successors_of here.runs.code.instrs (offset, i)) target (leads (option_to_list (offset_after here.runs.code.instrs offset)))) locals_fit refl stack_fits, under);
-            statics = good.statics;
-            statics_count = good.statics_count;
-            heap = good.heap;
-            marks_count = good.marks_count;
-          },
-        )
+    goes_to _ (jumps {target} {stack = stack_after_it} locals_fit stack_fits) leads = (
+      with_frames s (CodeFrame method target locals stack_after_it ∷ below),
+      refl,
+      record {
+        frames = (moved target locals stack_after_it (Contains-from_has (successors_of here.runs.code.instrs (offset, i)) target (leads (option_to_list (offset_after here.runs.code.instrs offset)))) locals_fit refl stack_fits, under);
+        statics = good.statics;
+        statics_count = good.statics_count;
+        heap = good.heap;
+        marks_count = good.marks_count;
+      },
+    )
     goes_to _ (sets_static {field} {v} {stack = stack_after_it} typed locals_fit stack_fits) falls =
         behind falls (record s { statics = slice_set s.statics field v }) locals stack_after_it locals_fit refl stack_fits
         (set_fits files s.statics field v typed good.statics) (length-set s.statics field v ∙ good.statics_count) good.heap good.marks_count
@@ -292,38 +289,41 @@ module _ (files : List ClassFile) (sound : IsSound files) where
         behind falls (record s { heap = s.heap ++ o ∷ [] }) locals (Holds (Address (length s.heap)) ∷ stack_after_it) locals_fit refl stack_fits good.statics good.statics_count
         (all_append (IsShaped files) s.heap (o ∷ []) good.heap (shaped, tt)) good.marks_count
     goes_to _ (opens {c}) flow = (opened files s c, refl, opened_kinds s c good)
-    goes_to _ (begins {method = taken} {locals = locals_in} {stack = stack_after_it} begun locals_fit) falls =
-        (
-          with_frames s (CodeFrame (method_id taken) 0 locals_in [] ∷ CodeFrame method offset locals stack_after_it ∷ below), refl,
-          record {
-            frames = (
-              subst (λ l. IsAtKinds files taken 0 l []) (sym begun.locals_are) (begun_kinds taken begun.owned begun.code begun.arguments begun.numbered begun.has_code begun.arguments_fit),
-              (record {
-                runs = here.runs;
-                local_kinds = here.local_kinds;
-                stack_kinds = here.stack_kinds;
-                known = here.known;
-                i = i;
-                stands = at;
-                falls = falls;
-                locals_fit = locals_fit;
-                locals_count = here.locals_count;
-                stack_fits = begun.stack_fits;
-                callee = begun.owned;
-                callee_numbered = begun.numbered;
-                result = begun.result;
-              }, under),
-            );
-            statics = good.statics;
-            statics_count = good.statics_count;
-            heap = good.heap;
-            marks_count = good.marks_count;
-          },
-        )
+    goes_to _ (begins {method = taken} {locals = locals_in} {stack = stack_after_it} begun locals_fit) falls = (
+      with_frames s (CodeFrame (method_id taken) 0 locals_in [] ∷ CodeFrame method offset locals stack_after_it ∷ below),
+      refl,
+      record {
+        frames = (
+          subst (λ l. IsAtKinds files taken 0 l []) (sym begun.locals_are) (begun_kinds taken begun.owned begun.code begun.arguments begun.numbered begun.has_code begun.arguments_fit),
+          (
+            record {
+              runs = here.runs;
+              local_kinds = here.local_kinds;
+              stack_kinds = here.stack_kinds;
+              known = here.known;
+              i = i;
+              stands = at;
+              falls = falls;
+              locals_fit = locals_fit;
+              locals_count = here.locals_count;
+              stack_fits = begun.stack_fits;
+              callee = begun.owned;
+              callee_numbered = begun.numbered;
+              result = begun.result;
+            },
+            under,
+          ),
+        );
+        statics = good.statics;
+        statics_count = good.statics_count;
+        heap = good.heap;
+        marks_count = good.marks_count;
+      },
+    )
     goes_to _ (hands_over {results} results_fit) flow =
-        let rest = handed_by results below results_fit under in
-        (
-          with_frames s rest.0, ap (option_map (with_frames s)) rest.1,
+        let rest = handed_by results below results_fit under in (
+          with_frames s rest.0,
+          ap (option_map (with_frames s)) rest.1,
           record { frames = rest.2; statics = good.statics; statics_count = good.statics_count; heap = good.heap; marks_count = good.marks_count },
         )
 

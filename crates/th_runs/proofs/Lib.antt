@@ -17,3 +17,7 @@ pub mod Running
 pub mod Spelt
 pub mod Closing
 pub mod Valued
+pub mod Members
+pub mod Texts
+pub mod Sounding
+pub mod WorkedActivity

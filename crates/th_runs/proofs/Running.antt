@@ -1,5 +1,5 @@
 -- Runs keep to kinds, and a state with frames has a step.
-use Rattle.std.proofs.Common.{◌≡◌, ℕ, zero, suc, ◌+◌, ◌⊎◌, inl, inr, ◌&&◌, Bool, true, false, if◌then◌else◌, List, [], ◌∷◌, ◌++◌, Option, None, Some, slice_get, slice_set, refl, sym, ap, subst, ◌∙◌, length-append}
+use Rattle.std.proofs.Common.{◌≡◌, ℕ, suc, ◌⊎◌, inl, inr, ◌&&◌, Bool, true, false, if◌then◌else◌, List, [], ◌∷◌, ◌++◌, None, Some, slice_get, refl, sym, ap, subst, ◌∙◌}
 use Rattle.std.specs.Prelude.{⊤, length, map, codes}
 use Rattle.std.specs.List.{AllByRecursion}
 use Rattle.std.specs.Option.{option_and_then, option_map}
@@ -10,19 +10,15 @@ use Rattle.th_base.specs.declared.lifecycle.Lifecycle.{Lifecycle}
 use Rattle.th_base.specs.declared.number.ClassId.{ClassId}
 use Rattle.th_base.specs.declared.number.MethodId.{MethodId}
 use Rattle.th_base.specs.Handlers.{Handler, handlers, takes_bundle}
-use Rattle.th_base.specs.Hierarchy.{declared_method, selected_method}
+use Rattle.th_base.specs.Hierarchy.{selected_method}
 use Rattle.th_syntax.specs.declared.class_file.ClassFile.{ClassFile}
 use Rattle.th_syntax.specs.declared.class_file.Code.{Code}
 use Rattle.th_syntax.specs.declared.instr.Instr.{Instr}
-use Rattle.th_syntax.specs.declared.kind.SlotKind.{SlotKind}
-use Rattle.th_syntax.specs.declared.machine.Value.{Value}
 use Rattle.th_syntax.specs.declared.machine.Value.TheVariants.{Null as NullValue, Address}
 use Rattle.th_syntax.specs.declared.machine.Slot.{Slot}
 use Rattle.th_syntax.specs.declared.machine.Slot.TheVariants.{Holds}
-use Rattle.th_syntax.specs.declared.machine.Object.{Object}
-use Rattle.th_syntax.specs.declared.machine.Mark.{Mark}
 use Rattle.th_syntax.specs.declared.machine.Mark.TheVariants.{Untouched, Done}
-use Rattle.th_syntax.specs.declared.machine.InitStage.TheVariants.{CallInitialiser, EndInit}
+use Rattle.th_syntax.specs.declared.machine.InitStage.TheVariants.{CallInitialiser}
 use Rattle.th_syntax.specs.declared.machine.LaunchStage.{LaunchStage}
 use Rattle.th_syntax.specs.declared.machine.LaunchStage.TheVariants.{OpenClass, MakeObject, EndLaunch}
 use Rattle.th_syntax.specs.declared.machine.Frame.{Frame}
@@ -33,29 +29,29 @@ use Rattle.th_syntax.specs.KindRows.{ref, parameter_slots}
 use Rattle.th_syntax.specs.Facts.{IsReachedInstr, IsOnPath}
 use Rattle.th_syntax.specs.Machine.{class_of, with_frames, method_id}
 use Rattle.th_syntax.specs.Slots.{locals_with}
-use Rattle.th_syntax.specs.Program.{Owned, built_in_classes, all_classes, fields_of, hierarchy_of, is_launchable, code_of, instr_at}
+use Rattle.th_syntax.specs.Program.{Owned, built_in_classes, fields_of, hierarchy_of, is_launchable}
 use Rattle.th_syntax.specs.Strings.{string_constants}
 use Rattle.th_syntax.specs.Initial.{default_value, new_object, initial}
-use Rattle.th_syntax.specs.Effects.{frame_of, after, opened}
-use Rattle.th_syntax.specs.Step.{effect, frame_named, step_init, step_launch, step_frames, step}
+use Rattle.th_syntax.specs.Effects.{frame_of, after}
+use Rattle.th_syntax.specs.Step.{effect, frame_named, step_launch, step_frames, step}
 use Rattle.th_syntax.specs.Harness.{bundle_argument, fresh_objects}
-use Rattle.th_syntax.specs.Run.{Follows, IsRun, IsReachable}
+use Rattle.th_syntax.specs.Run.{IsRun, IsReachable}
 use Rattle.th_syntax.specs.LinkChecks.{use_of}
 use Rattle.th_syntax.specs.Linking.{Stands}
 use Rattle.th_syntax.specs.Changes.{top_at, HasNoWaiting, IsChange, ends_run, moves, sets_a_static, sets_an_object, makes_an_instance, makes_an_array, opens_class, calls_method, returns_to, returns_off, finds_superclass, opens_superclass, calls_initialiser, calls_none, initialised_class, finds_class, opens_launched, makes_launched, launches_object, begins_launch, begins_handler}
 use Rattle.th_syntax.proofs.Inverting.{some_is, and_then_some, all_append, all_at}
 use Rattle.th_syntax.proofs.Origins.{initial_value, on_paths}
-use Rattle.th_runs.specs.Fitting.{AreOfKinds, IsOfType, IsOfField, IsShaped}
+use Rattle.th_runs.specs.Fitting.{AreOfKinds, IsOfType, IsShaped}
 use Rattle.th_runs.specs.FrameKinds.{AreFramesOfKinds, IsOfKinds}
 use Rattle.th_runs.specs.Sound.{IsSound}
 use Rattle.th_runs.proofs.Lists.{all_map}
 use Rattle.th_runs.proofs.Stepping.{IsCodeStep, stepped, no_code}
 use Rattle.th_runs.proofs.Declaring.{declared}
-use Rattle.th_runs.proofs.Taking.{IsTaken, selected_is}
+use Rattle.th_runs.proofs.Taking.{selected_is}
 use Rattle.th_runs.proofs.Fits.{default_fits}
 use Rattle.th_runs.proofs.Shaping.{new_shaped}
-use Rattle.th_runs.proofs.Calling.{IsCalled, called}
-use Rattle.th_runs.proofs.Going.{opened_kinds, begun_kinds, HasCodeStep, code_goes}
+use Rattle.th_runs.proofs.Calling.{called}
+use Rattle.th_runs.proofs.Going.{opened_kinds, begun_kinds, code_goes}
 
 -- ---- methods that the machine and the harness call
 
@@ -141,7 +137,7 @@ module _ (lifecycle : Lifecycle) (files : List ClassFile) (sound : IsSound files
       record {
         frames = (
           begun_kinds files sound m.id.0 its.owned code (Holds (Address (length s.heap)) ∷ []) its.numbered its.has_code
-          (subst (λ ks. AreOfKinds ks (Holds (Address (length s.heap)) ∷ [])) (sym takes) (inr (length s.heap, refl), tt)),
+              (subst (λ ks. AreOfKinds ks (Holds (Address (length s.heap)) ∷ [])) (sym takes) (inr (length s.heap, refl), tt)),
           at,
         );
         statics = good.statics;
@@ -162,7 +158,7 @@ module _ (lifecycle : Lifecycle) (files : List ClassFile) (sound : IsSound files
       record {
         frames = (
           begun_kinds files sound method its.owned code arguments its.numbered its.has_code
-          (subst (λ ks. AreOfKinds ks arguments) (sym takes) (inr (l.object, refl), bundle_fits (takes_bundle h) fresh (length s.heap))),
+              (subst (λ ks. AreOfKinds ks arguments) (sym takes) (inr (l.object, refl), bundle_fits (takes_bundle h) fresh (length s.heap))),
           tt,
         );
         statics = good.statics;

@@ -1,7 +1,7 @@
 -- Objects have the shape of their class: what is new has it, what is stored keeps it, and each instance
 -- field of a class above is found in them.
 use Rattle.std.proofs.Common.{◌≡◌, ℕ, zero, suc, ◌==◌, ◌⊎◌, inl, inr, not, Bool, true, false, cond, if◌then◌else◌, List, [], ◌∷◌, ◌++◌, map, Option, None, Some, refl, sym, ap, subst, ◌∙◌}
-use Rattle.std.specs.Prelude.{⊤, slice_get, find, filter, reverse, length, replicate, Contains}
+use Rattle.std.specs.Prelude.{slice_get, find, filter, reverse, replicate, Contains}
 use Rattle.std.specs.List.{AllByRecursion, flat_map}
 use Rattle.std.specs.Option.{option_map, option_map_or}
 use Rattle.std.proofs.lemmas.Bool.{eqb-true, eq-eqb}
@@ -14,14 +14,13 @@ use Rattle.th_base.specs.IdSet.{has}
 use Rattle.th_base.proofs.Orders.{has-cons_cases}
 use Rattle.th_syntax.specs.declared.class_file.ClassFile.{ClassFile}
 use Rattle.th_syntax.specs.declared.machine.Value.{Value}
-use Rattle.th_syntax.specs.declared.machine.Object.{Object}
 use Rattle.th_syntax.specs.declared.machine.Object.TheVariants.{Instance, Array}
 use Rattle.th_syntax.specs.Machine.{class_id}
 use Rattle.th_syntax.specs.Program.{Owned, fields_of, hierarchy_of}
 use Rattle.th_syntax.specs.Initial.{default_value, instance_fields, new_object}
 use Rattle.th_syntax.specs.Fields.{field_value, with_field}
 use Rattle.th_syntax.specs.Arrays.{array_descriptor}
-use Rattle.th_syntax.proofs.Inverting.{some_is, all_append, all_at}
+use Rattle.th_syntax.proofs.Inverting.{some_is, all_append}
 use Rattle.th_runs.specs.Fitting.{IsOfType, IsOfField, IsShaped}
 use Rattle.th_runs.proofs.Lists.{all_replicate}
 use Rattle.th_runs.proofs.Declaring.{IsFieldHere, field_here, contains_at, at_index}
@@ -32,12 +31,12 @@ use Rattle.th_runs.proofs.Fits.{default_fits}
 abbrev pub IsIn : {A : Type 0} → List A → A → Type 0
 IsIn xs x = (j : ℕ) × (slice_get xs j ≡ Some x)
 
-in_left : {A : Type 0} (xs ys : List A) (x : A) → IsIn xs x → IsIn (xs ++ ys) x
+pub in_left : {A : Type 0} (xs ys : List A) (x : A) → IsIn xs x → IsIn (xs ++ ys) x
 in_left [] ys x (j, e) = absurd cc
 in_left (z ∷ xs) ys x (zero, e) = (zero, e)
 in_left (z ∷ xs) ys x (suc j, e) = let rest = in_left xs ys x (j, e) in (suc rest.0, rest.1)
 
-in_right : {A : Type 0} (xs ys : List A) (x : A) → IsIn ys x → IsIn (xs ++ ys) x
+pub in_right : {A : Type 0} (xs ys : List A) (x : A) → IsIn ys x → IsIn (xs ++ ys) x
 in_right [] ys x is = is
 in_right (z ∷ xs) ys x is = let rest = in_right xs ys x is in (suc rest.0, rest.1)
 
@@ -51,7 +50,7 @@ in_reverse [] x (j, e) = absurd cc
 in_reverse (z ∷ xs) x (zero, e) = subst (λ ys. IsIn ys x) (sym (reverse-append (z ∷ []) xs)) (in_right (reverse xs) (z ∷ []) x (zero, e))
 in_reverse (z ∷ xs) x (suc j, e) = subst (λ ys. IsIn ys x) (sym (reverse-append (z ∷ []) xs)) (in_left (reverse xs) (z ∷ []) x (in_reverse xs x (j, e)))
 
-in_flat_map : {A B : Type 0} (f : A → List B) (xs : List A) (x : A) (y : B) → IsIn xs x → IsIn (f x) y → IsIn (flat_map f xs) y
+pub in_flat_map : {A B : Type 0} (f : A → List B) (xs : List A) (x : A) (y : B) → IsIn xs x → IsIn (f x) y → IsIn (flat_map f xs) y
 in_flat_map f [] x y (j, e) is = absurd cc
 in_flat_map f (z ∷ xs) x y (zero, e) is = in_left (f z) (flat_map f xs) y (subst (λ w. IsIn (f w) y) (sym (some_is z x e)) is)
 in_flat_map f (z ∷ xs) x y (suc j, e) is = in_right (f z) (flat_map f xs) y (in_flat_map f xs x y (j, e) is)
@@ -62,7 +61,7 @@ filter_by p z x xs true e here (inr more) = (suc more.0, more.1)
 filter_by p z x xs false e here (inl same) = absurd (let h : false ≡ true = sym e ∙ ap p same ∙ here in cc)
 filter_by p z x xs false e here (inr more) = more
 
-in_filter : {A : Type 0} (p : A → Bool) (xs : List A) (x : A) → IsIn xs x → p x ≡ true → IsIn (filter p xs) x
+pub in_filter : {A : Type 0} (p : A → Bool) (xs : List A) (x : A) → IsIn xs x → p x ≡ true → IsIn (filter p xs) x
 in_filter p [] x (j, e) here = absurd cc
 in_filter p (z ∷ xs) x (zero, e) here = filter_by p z x xs (p z) refl here (inl (some_is z x e))
 in_filter p (z ∷ xs) x (suc j, e) here = filter_by p z x xs (p z) refl here (inr (in_filter p xs x (j, e) here))

@@ -1,23 +1,22 @@
 -- The instructions that the bytes of code spell name members by descriptors of the profile, and `new` a class.
-use Rattle.std.proofs.Common.{◌≡◌, ℕ, suc, ◌+◌, ◌-◌, ◌*◌, ◌==◌, ◌&&◌, Bool, true, false, cond, if◌then◌else◌, List, [], ◌∷◌, ◌++◌, Option, None, Some, refl, sym, ap, subst, ◌∙◌}
+use Rattle.std.proofs.Common.{◌≡◌, ℕ, ◌+◌, ◌-◌, ◌==◌, ◌&&◌, Bool, true, false, if◌then◌else◌, List, [], ◌∷◌, ◌++◌, Option, None, Some, refl, subst}
 use Rattle.std.specs.Prelude.{⊤, nat_le, nat_lt, length, take, drop, Result, Ok, Err}
 use Rattle.std.specs.List.{AllByRecursion}
-use Rattle.th_base.specs.declared.operation.Elem.TheVariants as elem
 use Rattle.th_syntax.specs.declared.cause.TheConstants as cause
 use Rattle.th_syntax.specs.declared.tag.TheConstants as tag
 use Rattle.th_syntax.specs.declared.instr.Instr.{Instr}
-use Rattle.th_syntax.specs.declared.instr.Instr.TheVariants.{Nop, Null, Int, Long, Str, ILoad, LLoad, ALoad, IStore, LStore, AStore, ArrayLoad, LArrayLoad, ArrayStore, LArrayStore, Stack, Arith, LArith, Neg, LNeg, Inc, Narrow, I2L, L2I, LCmp, IfZero, IfInts, IfSame, IfOther, IfNull, IfNotNull, Goto, TableSwitch, LookupSwitch, IReturn, LReturn, AReturn, Return, GetStatic, PutStatic, GetField, PutField, InvokeVirtual, InvokeSpecial, InvokeInterface, InvokeStatic, New, NewArray, ANewArray, ArrayLength, Throw, CheckCast, InstanceOf, MonitorEnter, MonitorExit}
+use Rattle.th_syntax.specs.declared.instr.Instr.TheVariants.{GetStatic, PutStatic, GetField, PutField, InvokeVirtual, InvokeSpecial, InvokeInterface, InvokeStatic, New, ANewArray, CheckCast, InstanceOf}
 use Rattle.th_syntax.specs.declared.instr.MemberRef.{MemberRef}
 use Rattle.th_syntax.specs.declared.refusal.Flaw.{Flaw}
-use Rattle.th_syntax.specs.Forms.{Form, whole, item, wrong, ◌>>=◌, Placed, Found, Stands, read}
-use Rattle.th_syntax.specs.ClassBytes.{Entry, integer, float, long, double, string, number, run, u1, u2, u4, demand, times, Pool}
+use Rattle.th_syntax.specs.Forms.{Form, whole, item, wrong, ◌>>=◌, Found, read}
+use Rattle.th_syntax.specs.ClassBytes.{Entry, integer, float, long, double, string, number, u1, u2, u4, demand, times, Pool}
 use Rattle.th_syntax.specs.PoolChecks.{entry_of, utf8_of, class_of}
 use Rattle.th_syntax.specs.Descriptors.{field_type_of, method_type_of}
 use Rattle.th_syntax.specs.Flaws.{unless}
 use Rattle.th_syntax.specs.WellFormed.{is_field_name, is_method_name}
-use Rattle.th_syntax.specs.CodeBytes.{Spelled, instr, flawed, checked, plain, refused, type_numbers, method_type_numbers, class_name_numbers, class_or_array_numbers, field_numbers, is_callable, method_numbers, given, loaded, load, loaded_wide, load_wide, member_among, access, call, of_classes, of_interfaces, of_either, of_class, jump, far, local, wide_local, element_of, padding, i4, count_between, table_switch, match_pair, lookup_switch, keys_ascend, Row, among, constant_rows, variable_rows, arithmetic_rows, control_rows, interface_call, object_rows, wide_rows, wide_row, rows, instruction}
+use Rattle.th_syntax.specs.CodeBytes.{Spelled, instr, flawed, checked, type_numbers, method_type_numbers, class_name_numbers, class_or_array_numbers, field_numbers, is_callable, method_numbers, given, loaded, load, loaded_wide, load_wide, member_among, access, call, of_classes, of_interfaces, of_either, of_class, element_of, padding, i4, count_between, table_switch, match_pair, lookup_switch, keys_ascend, Row, among, constant_rows, variable_rows, arithmetic_rows, control_rows, interface_call, object_rows, wide_rows, wide_row, rows, instruction}
 use Rattle.th_syntax.specs.Decoding.{AreSpelled, none, more}
-use Rattle.th_syntax.proofs.Inverting.{all_append, and_then_some, some_is}
+use Rattle.th_syntax.proofs.Inverting.{all_append}
 use Rattle.th_syntax.proofs.Reading.{stands_read}
 use Rattle.th_runs.proofs.Above.{nil_left, nil_right}
 
@@ -148,154 +147,390 @@ among_fine (one ∷ rs) code pc at all = among_by one (code - one.first) pc (nat
 
 constant_rows_fine : (pool : Pool) → AreFine (constant_rows pool)
 unfolding Yields
-constant_rows_fine pool =
-    (λ k pc. tt,
-    (λ k pc. tt,
-    (λ k pc. tt,
-    (λ k pc. tt,
-    (λ k pc. yields_any IsFine u1 _ (λ value. tt),
-    (λ k pc. yields_any IsFine u2 _ (λ value. tt),
-    (λ k pc. yields_any IsFine u1 _ (λ index. load_fine pool index.value),
-    (λ k pc. yields_any IsFine u2 _ (λ index. load_fine pool index.value),
-    (λ k pc. yields_any IsFine u2 _ (λ index. load_wide_fine pool index.value),
-    tt)))))))))
+constant_rows_fine pool = (
+  λ k pc. tt,
+  (
+    λ k pc. tt,
+    (
+      λ k pc. tt,
+      (
+        λ k pc. tt,
+        (
+          λ k pc. yields_any IsFine u1 _ (λ value. tt),
+          (
+            λ k pc. yields_any IsFine u2 _ (λ value. tt),
+            (
+              λ k pc. yields_any IsFine u1 _ (λ index. load_fine pool index.value),
+              (
+                λ k pc. yields_any IsFine u2 _ (λ index. load_fine pool index.value),
+                (
+                  λ k pc. yields_any IsFine u2 _ (λ index. load_wide_fine pool index.value),
+                  tt,
+                ),
+              ),
+            ),
+          ),
+        ),
+      ),
+    ),
+  ),
+)
 
 variable_rows_fine : AreFine variable_rows
 unfolding Yields
-variable_rows_fine =
-    (λ k pc. yields_any IsFine u1 _ (λ index. tt),
-    (λ k pc. yields_any IsFine u1 _ (λ index. tt),
-    (λ k pc. yields_any IsFine u1 _ (λ index. tt),
-    (λ k pc. tt,
-    (λ k pc. tt,
-    (λ k pc. tt,
-    (λ k pc. tt,
-    (λ k pc. tt,
-    (λ k pc. tt,
-    (λ k pc. tt,
-    (λ k pc. tt,
-    (λ k pc. tt,
-    (λ k pc. yields_any IsFine u1 _ (λ index. tt),
-    (λ k pc. yields_any IsFine u1 _ (λ index. tt),
-    (λ k pc. yields_any IsFine u1 _ (λ index. tt),
-    (λ k pc. tt,
-    (λ k pc. tt,
-    (λ k pc. tt,
-    (λ k pc. tt,
-    (λ k pc. tt,
-    (λ k pc. tt,
-    (λ k pc. tt,
-    (λ k pc. tt,
-    (λ k pc. tt,
-    tt))))))))))))))))))))))))
+variable_rows_fine = (
+  λ k pc. yields_any IsFine u1 _ (λ index. tt),
+  (
+    λ k pc. yields_any IsFine u1 _ (λ index. tt),
+    (
+      λ k pc. yields_any IsFine u1 _ (λ index. tt),
+      (
+        λ k pc. tt,
+        (
+          λ k pc. tt,
+          (
+            λ k pc. tt,
+            (
+              λ k pc. tt,
+              (
+                λ k pc. tt,
+                (
+                  λ k pc. tt,
+                  (
+                    λ k pc. tt,
+                    (
+                      λ k pc. tt,
+                      (
+                        λ k pc. tt,
+                        (
+                          λ k pc. yields_any IsFine u1 _ (λ index. tt),
+                          (
+                            λ k pc. yields_any IsFine u1 _ (λ index. tt),
+                            (
+                              λ k pc. yields_any IsFine u1 _ (λ index. tt),
+                              (
+                                λ k pc. tt,
+                                (
+                                  λ k pc. tt,
+                                  (
+                                    λ k pc. tt,
+                                    (
+                                      λ k pc. tt,
+                                      (
+                                        λ k pc. tt,
+                                        (
+                                          λ k pc. tt,
+                                          (
+                                            λ k pc. tt,
+                                            (
+                                              λ k pc. tt,
+                                              (
+                                                λ k pc. tt,
+                                                tt,
+                                              ),
+                                            ),
+                                          ),
+                                        ),
+                                      ),
+                                    ),
+                                  ),
+                                ),
+                              ),
+                            ),
+                          ),
+                        ),
+                      ),
+                    ),
+                  ),
+                ),
+              ),
+            ),
+          ),
+        ),
+      ),
+    ),
+  ),
+)
 
 arithmetic_rows_fine : AreFine arithmetic_rows
 unfolding Yields
-arithmetic_rows_fine =
-    (λ k pc. tt,
-    (λ k pc. tt,
-    (λ k pc. tt,
-    (λ k pc. tt,
-    (λ k pc. tt,
-    (λ k pc. tt,
-    (λ k pc. tt,
-    (λ k pc. tt,
-    (λ k pc. tt,
-    (λ k pc. tt,
-    (λ k pc. tt,
-    (λ k pc. tt,
-    (λ k pc. tt,
-    (λ k pc. tt,
-    (λ k pc. tt,
-    (λ k pc. tt,
-    (λ k pc. tt,
-    (λ k pc. tt,
-    (λ k pc. tt,
-    (λ k pc. tt,
-    (λ k pc. tt,
-    (λ k pc. tt,
-    (λ k pc. tt,
-    (λ k pc. tt,
-    (λ k pc. tt,
-    (λ k pc. tt,
-    (λ k pc. tt,
-    (λ k pc. tt,
-    (λ k pc. tt,
-    (λ k pc. tt,
-    (λ k pc. tt,
-    (λ k pc. tt,
-    (λ k pc. tt,
-    (λ k pc. yields_any IsFine u1 _ (λ index. yields_any IsFine u1 _ (λ by. tt)),
-    (λ k pc. tt,
-    (λ k pc. tt,
-    (λ k pc. tt,
-    (λ k pc. tt,
-    (λ k pc. tt,
-    (λ k pc. tt,
-    tt))))))))))))))))))))))))))))))))))))))))
+arithmetic_rows_fine = (
+  λ k pc. tt,
+  (
+    λ k pc. tt,
+    (
+      λ k pc. tt,
+      (
+        λ k pc. tt,
+        (
+          λ k pc. tt,
+          (
+            λ k pc. tt,
+            (
+              λ k pc. tt,
+              (
+                λ k pc. tt,
+                (
+                  λ k pc. tt,
+                  (
+                    λ k pc. tt,
+                    (
+                      λ k pc. tt,
+                      (
+                        λ k pc. tt,
+                        (
+                          λ k pc. tt,
+                          (
+                            λ k pc. tt,
+                            (
+                              λ k pc. tt,
+                              (
+                                λ k pc. tt,
+                                (
+                                  λ k pc. tt,
+                                  (
+                                    λ k pc. tt,
+                                    (
+                                      λ k pc. tt,
+                                      (
+                                        λ k pc. tt,
+                                        (
+                                          λ k pc. tt,
+                                          (
+                                            λ k pc. tt,
+                                            (
+                                              λ k pc. tt,
+                                              (
+                                                λ k pc. tt,
+                                                (
+                                                  λ k pc. tt,
+                                                  (
+                                                    λ k pc. tt,
+                                                    (
+                                                      λ k pc. tt,
+                                                      (
+                                                        λ k pc. tt,
+                                                        (
+                                                          λ k pc. tt,
+                                                          (
+                                                            λ k pc. tt,
+                                                            (
+                                                              λ k pc. tt,
+                                                              (
+                                                                λ k pc. tt,
+                                                                (
+                                                                  λ k pc. tt,
+                                                                  (
+                                                                    λ k pc. yields_any IsFine u1 _ (λ index. yields_any IsFine u1 _ (λ by. tt)),
+                                                                    (
+                                                                      λ k pc. tt,
+                                                                      (
+                                                                        λ k pc. tt,
+                                                                        (
+                                                                          λ k pc. tt,
+                                                                          (
+                                                                            λ k pc. tt,
+                                                                            (
+                                                                              λ k pc. tt,
+                                                                              (
+                                                                                λ k pc. tt,
+                                                                                tt,
+                                                                              ),
+                                                                            ),
+                                                                          ),
+                                                                        ),
+                                                                      ),
+                                                                    ),
+                                                                  ),
+                                                                ),
+                                                              ),
+                                                            ),
+                                                          ),
+                                                        ),
+                                                      ),
+                                                    ),
+                                                  ),
+                                                ),
+                                              ),
+                                            ),
+                                          ),
+                                        ),
+                                      ),
+                                    ),
+                                  ),
+                                ),
+                              ),
+                            ),
+                          ),
+                        ),
+                      ),
+                    ),
+                  ),
+                ),
+              ),
+            ),
+          ),
+        ),
+      ),
+    ),
+  ),
+)
 
 control_rows_fine : AreFine control_rows
 unfolding Yields
-control_rows_fine =
-    (λ k pc. yields_any IsFine u2 _ (λ by. tt),
-    (λ k pc. yields_any IsFine u2 _ (λ by. tt),
-    (λ k pc. yields_any IsFine u2 _ (λ by. tt),
-    (λ k pc. yields_any IsFine u2 _ (λ by. tt),
-    (λ k pc. yields_any IsFine u2 _ (λ by. tt),
-    (λ k pc. yields_any IsFine u2 _ (λ by. tt),
-    (λ k pc. yields_any IsFine u2 _ (λ by. tt),
-    (λ k pc. yields_any IsFine u2 _ (λ by. tt),
-    (λ k pc. yields_any IsFine u2 _ (λ by. tt),
-    (λ k pc. yields_any IsFine u2 _ (λ by. tt),
-    (λ k pc. yields_any IsFine u2 _ (λ by. tt),
-    (λ k pc. yields_any IsFine u2 _ (λ by. tt),
-    (λ k pc. yields_any IsFine u2 _ (λ by. tt),
-    (λ k pc. yields_any IsFine u2 _ (λ by. tt),
-    (λ k pc. yields_any IsFine u2 _ (λ by. tt),
-    (λ k pc. table_fine pc,
-    (λ k pc. lookup_fine pc,
-    (λ k pc. tt,
-    (λ k pc. tt,
-    (λ k pc. tt,
-    (λ k pc. tt,
-    (λ k pc. yields_any IsFine u2 _ (λ by. tt),
-    (λ k pc. yields_any IsFine u2 _ (λ by. tt),
-    (λ k pc. yields_any IsFine u4 _ (λ by. tt),
-    tt))))))))))))))))))))))))
+control_rows_fine = (
+  λ k pc. yields_any IsFine u2 _ (λ by. tt),
+  (
+    λ k pc. yields_any IsFine u2 _ (λ by. tt),
+    (
+      λ k pc. yields_any IsFine u2 _ (λ by. tt),
+      (
+        λ k pc. yields_any IsFine u2 _ (λ by. tt),
+        (
+          λ k pc. yields_any IsFine u2 _ (λ by. tt),
+          (
+            λ k pc. yields_any IsFine u2 _ (λ by. tt),
+            (
+              λ k pc. yields_any IsFine u2 _ (λ by. tt),
+              (
+                λ k pc. yields_any IsFine u2 _ (λ by. tt),
+                (
+                  λ k pc. yields_any IsFine u2 _ (λ by. tt),
+                  (
+                    λ k pc. yields_any IsFine u2 _ (λ by. tt),
+                    (
+                      λ k pc. yields_any IsFine u2 _ (λ by. tt),
+                      (
+                        λ k pc. yields_any IsFine u2 _ (λ by. tt),
+                        (
+                          λ k pc. yields_any IsFine u2 _ (λ by. tt),
+                          (
+                            λ k pc. yields_any IsFine u2 _ (λ by. tt),
+                            (
+                              λ k pc. yields_any IsFine u2 _ (λ by. tt),
+                              (
+                                λ k pc. table_fine pc,
+                                (
+                                  λ k pc. lookup_fine pc,
+                                  (
+                                    λ k pc. tt,
+                                    (
+                                      λ k pc. tt,
+                                      (
+                                        λ k pc. tt,
+                                        (
+                                          λ k pc. tt,
+                                          (
+                                            λ k pc. yields_any IsFine u2 _ (λ by. tt),
+                                            (
+                                              λ k pc. yields_any IsFine u2 _ (λ by. tt),
+                                              (
+                                                λ k pc. yields_any IsFine u4 _ (λ by. tt),
+                                                tt,
+                                              ),
+                                            ),
+                                          ),
+                                        ),
+                                      ),
+                                    ),
+                                  ),
+                                ),
+                              ),
+                            ),
+                          ),
+                        ),
+                      ),
+                    ),
+                  ),
+                ),
+              ),
+            ),
+          ),
+        ),
+      ),
+    ),
+  ),
+)
 
 object_rows_fine : (pool : Pool) → AreFine (object_rows pool)
 unfolding Yields
-object_rows_fine pool =
-    (λ k pc. access_fine pool GetStatic (λ f e. e),
-    (λ k pc. access_fine pool PutStatic (λ f e. e),
-    (λ k pc. access_fine pool GetField (λ f e. e),
-    (λ k pc. access_fine pool PutField (λ f e. e),
-    (λ k pc. yields_any IsFine u2 _ (λ index. call_fine pool of_classes false InvokeVirtual index.value [] (λ m e. e)),
-    (λ k pc. yields_any IsFine u2 _ (λ index. call_fine pool of_either true InvokeSpecial index.value [] (λ m e. e)),
-    (λ k pc. yields_any IsFine u2 _ (λ index. call_fine pool of_either false InvokeStatic index.value [] (λ m e. e)),
-    (λ k pc. interface_fine pool,
-    (λ k pc. class_fine pool class_name_numbers New (λ name e. e),
-    (λ k pc. yields_any IsFine u1 _ (λ code. given_fine cause.CODE_SHAPE (element_of code.value) _ (λ element is. tt)),
-    (λ k pc. class_fine pool class_or_array_numbers ANewArray (λ name e. tt),
-    (λ k pc. tt,
-    (λ k pc. tt,
-    (λ k pc. class_fine pool class_or_array_numbers CheckCast (λ name e. tt),
-    (λ k pc. class_fine pool class_or_array_numbers InstanceOf (λ name e. tt),
-    (λ k pc. tt,
-    (λ k pc. tt,
-    tt)))))))))))))))))
+object_rows_fine pool = (
+  λ k pc. access_fine pool GetStatic (λ f e. e),
+  (
+    λ k pc. access_fine pool PutStatic (λ f e. e),
+    (
+      λ k pc. access_fine pool GetField (λ f e. e),
+      (
+        λ k pc. access_fine pool PutField (λ f e. e),
+        (
+          λ k pc. yields_any IsFine u2 _ (λ index. call_fine pool of_classes false InvokeVirtual index.value [] (λ m e. e)),
+          (
+            λ k pc. yields_any IsFine u2 _ (λ index. call_fine pool of_either true InvokeSpecial index.value [] (λ m e. e)),
+            (
+              λ k pc. yields_any IsFine u2 _ (λ index. call_fine pool of_either false InvokeStatic index.value [] (λ m e. e)),
+              (
+                λ k pc. interface_fine pool,
+                (
+                  λ k pc. class_fine pool class_name_numbers New (λ name e. e),
+                  (
+                    λ k pc. yields_any IsFine u1 _ (λ code. given_fine cause.CODE_SHAPE (element_of code.value) _ (λ element is. tt)),
+                    (
+                      λ k pc. class_fine pool class_or_array_numbers ANewArray (λ name e. tt),
+                      (
+                        λ k pc. tt,
+                        (
+                          λ k pc. tt,
+                          (
+                            λ k pc. class_fine pool class_or_array_numbers CheckCast (λ name e. tt),
+                            (
+                              λ k pc. class_fine pool class_or_array_numbers InstanceOf (λ name e. tt),
+                              (
+                                λ k pc. tt,
+                                (
+                                  λ k pc. tt,
+                                  tt,
+                                ),
+                              ),
+                            ),
+                          ),
+                        ),
+                      ),
+                    ),
+                  ),
+                ),
+              ),
+            ),
+          ),
+        ),
+      ),
+    ),
+  ),
+)
 
 wide_rows_fine : AreFine wide_rows
 unfolding Yields
-wide_rows_fine =
-    (λ k pc. yields_any IsFine u2 _ (λ index. tt),
-    (λ k pc. yields_any IsFine u2 _ (λ index. tt),
-    (λ k pc. yields_any IsFine u2 _ (λ index. tt),
-    (λ k pc. yields_any IsFine u2 _ (λ index. tt),
-    (λ k pc. yields_any IsFine u2 _ (λ index. tt),
-    (λ k pc. yields_any IsFine u2 _ (λ index. tt),
-    (λ k pc. yields_any IsFine u2 _ (λ index. yields_any IsFine u2 _ (λ by. tt)),
-    tt)))))))
+wide_rows_fine = (
+  λ k pc. yields_any IsFine u2 _ (λ index. tt),
+  (
+    λ k pc. yields_any IsFine u2 _ (λ index. tt),
+    (
+      λ k pc. yields_any IsFine u2 _ (λ index. tt),
+      (
+        λ k pc. yields_any IsFine u2 _ (λ index. tt),
+        (
+          λ k pc. yields_any IsFine u2 _ (λ index. tt),
+          (
+            λ k pc. yields_any IsFine u2 _ (λ index. tt),
+            (
+              λ k pc. yields_any IsFine u2 _ (λ index. yields_any IsFine u2 _ (λ by. tt)),
+              tt,
+            ),
+          ),
+        ),
+      ),
+    ),
+  ),
+)
 
 wide_fine : (k pc : ℕ) → Fine (wide_row.operands k pc)
 wide_fine k pc = yields_any IsFine u1 _ (λ code. among_fine wide_rows code.value pc pc wide_rows_fine)

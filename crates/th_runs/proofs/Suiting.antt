@@ -1,16 +1,15 @@
 -- Each instruction does what its row says: it isn't stuck where the kinds before it fit, and what it leaves
 -- is of the kinds behind it.
-use Rattle.std.proofs.Common.{◌≡◌, ℕ, ℤ, zero, suc, ◌+◌, ◌<◌, ◌≤◌, ◌⊎◌, inl, inr, ◌&&◌, ◌||◌, not, Bool, true, false, cond, if◌then◌else◌, List, [], ◌∷◌, ◌++◌, Option, None, Some, slice_get, slice_set, refl, sym, ap, subst, ◌∙◌, arith}
-use Rattle.std.specs.Prelude.{⊤, pos, nat_le, length, map, take, drop, reverse, replicate, unsigned_abs, int_lt, codes, sum_by}
+use Rattle.std.proofs.Common.{◌≡◌, ℕ, ℤ, zero, suc, ◌+◌, ◌<◌, ◌⊎◌, inl, inr, ◌||◌, not, Bool, true, false, if◌then◌else◌, List, [], ◌∷◌, ◌++◌, Option, None, Some, slice_get, refl, sym, ap, subst, ◌∙◌, arith}
+use Rattle.std.specs.Prelude.{⊤, pos, nat_le, length, take, drop, reverse, unsigned_abs, int_lt, codes, sum_by}
 use Rattle.std.specs.List.{AllByRecursion}
-use Rattle.std.specs.Option.{option_and_then, option_map, option_map_or}
+use Rattle.std.specs.Option.{option_and_then, option_map}
 use Rattle.std.specs.Str.{bytes_eq}
 use Rattle.std.proofs.lemmas.Option.{slice_get_within}
 use Rattle.th_base.specs.IdSet.{has}
 use Rattle.th_base.specs.ValueKinds.{is_reference, is_long}
 use Rattle.th_base.specs.declared.class.FieldInfo.{FieldInfo}
 use Rattle.th_base.specs.declared.class.MethodInfo.{MethodInfo}
-use Rattle.th_base.specs.declared.number.FieldId.{FieldId}
 use Rattle.th_base.specs.declared.operation.ArithOp.{ArithOp}
 use Rattle.th_base.specs.declared.operation.ArithOp.TheVariants.{Add, Sub, Mul, Div, Rem, Shl, Shr, Ushr, And, Or, Xor}
 use Rattle.th_base.specs.declared.operation.Elem.{Elem}
@@ -27,40 +26,39 @@ use Rattle.th_syntax.specs.declared.kind.SlotKind.TheVariants as kind
 use Rattle.th_syntax.specs.declared.machine.Value.{Value}
 use Rattle.th_syntax.specs.declared.machine.Value.TheVariants.{Int as IntValue, Long as LongValue, Null as NullValue, Address}
 use Rattle.th_syntax.specs.declared.machine.Slot.{Slot}
-use Rattle.th_syntax.specs.declared.machine.Slot.TheVariants.{Holds, SecondHalf}
+use Rattle.th_syntax.specs.declared.machine.Slot.TheVariants.{Holds}
 use Rattle.th_syntax.specs.declared.machine.Object.{Object}
 use Rattle.th_syntax.specs.declared.machine.Object.TheVariants.{Instance, Array}
 use Rattle.th_syntax.specs.declared.machine.Mark.{Mark}
 use Rattle.th_syntax.specs.declared.machine.Mark.TheVariants.{Untouched, InProgress, Done}
-use Rattle.th_syntax.specs.Machine.{InstanceAt, instance_at, ArrayAt, array_at, class_at}
-use Rattle.th_syntax.specs.Slots.{int_of, long_of, reference_of, value_in, pushed, Popped, popped, popped_int, popped_long, popped_reference, stack_moved, local_value, local_int, local_long, local_reference, stored, locals_with}
+use Rattle.th_syntax.specs.Machine.{InstanceAt, ArrayAt}
+use Rattle.th_syntax.specs.Slots.{int_of, long_of, reference_of, value_in, pushed, Popped, popped, popped_int, popped_long, popped_reference, local_int, local_long, local_reference, locals_with}
 use Rattle.th_syntax.specs.Program.{Owned, all_classes, fields_of, methods_of, hierarchy_of, code_of, number_named}
-use Rattle.th_syntax.specs.Initial.{default_value, string_constant, new_object}
+use Rattle.th_syntax.specs.Initial.{string_constant}
 use Rattle.th_syntax.specs.Strings.{string_number_of}
-use Rattle.th_syntax.specs.Effects.{Top, Effect, Stuck, Ends, GoesOn, Jumps, SetsStatic, SetsObject, Makes, Opens, Calls, Returns, needs, or_ends, ends_unless, either_of, initialised, entered}
+use Rattle.th_syntax.specs.Effects.{Top, Effect, Ends, GoesOn, Jumps, SetsStatic, SetsObject, Makes, Opens, Calls, Returns, needs, or_ends, ends_unless, either_of, initialised}
 use Rattle.th_syntax.specs.Computing.{second_operand}
-use Rattle.th_syntax.specs.Fields.{field_resolved, on_object, field_value, with_field}
+use Rattle.th_syntax.specs.Fields.{field_resolved, on_object}
 use Rattle.th_syntax.specs.Branches.{branches}
-use Rattle.th_syntax.specs.Arrays.{holds, holds_longs, primitive_descriptor, named_descriptor, makes_array, element_at, on_element, loads_element, stores_element, stores_elements}
-use Rattle.th_syntax.specs.Calls.{argument_slots as slots_of_arguments, Invoked, invoked_in, invoked, invokes_selected, invokes_special, invokes_static, calls, calls_on, selected_for, special_method}
+use Rattle.th_syntax.specs.Arrays.{holds, holds_longs, primitive_descriptor, named_descriptor, makes_array, on_element, loads_element, stores_element, stores_elements}
+use Rattle.th_syntax.specs.Calls.{argument_slots as slots_of_arguments, Invoked, invoked_in, invoked, invokes_selected, invokes_special, invokes_static, calls, calls_on}
 use Rattle.th_syntax.specs.Step.{effect}
-use Rattle.th_syntax.specs.Changes.{IsOnReceiver}
-use Rattle.th_syntax.specs.KindRows.{KindRow, Works, Loads, Stores, Increments, Moves, int, long, ref, element_slots, field_slots, parameter_slots, result_slots, second_operand as second_slots, row_of, move_row, slots_taken, slots_given, locals_after, stack_after, are_wrong}
+use Rattle.th_syntax.specs.KindRows.{KindRow, Works, int, long, ref, element_slots, field_slots, parameter_slots, result_slots, second_operand as second_slots, row_of, move_row, slots_taken, slots_given, locals_after, stack_after, are_wrong}
 use Rattle.th_syntax.specs.KindTable.{argument_slots, is_other_return}
 use Rattle.th_syntax.specs.Kinds.{are_same_kinds}
 use Rattle.th_syntax.specs.Descriptors.{size_of, MethodType, method_type_of, is_floating_method}
 use Rattle.th_syntax.specs.LinkChecks.{use_of}
 use Rattle.th_syntax.specs.Linking.{IsLinked, IsFieldFound, IsMethodFound, Stands}
-use Rattle.th_syntax.proofs.Inverting.{some_is, all_at}
+use Rattle.th_syntax.proofs.Inverting.{all_at}
 use Rattle.th_syntax.proofs.Origins.{all_set}
 use Rattle.th_runs.specs.Fitting.{IsOfKind, AreOfKinds, BeginWithKinds, type_slots, IsOfType, IsOfField, IsShaped}
 use Rattle.th_runs.specs.Sound.{IsDescribed}
 use Rattle.th_runs.proofs.Leading.{instance_stands, array_stands}
-use Rattle.th_runs.proofs.Declaring.{IsMethodHere, IsFieldHere, same_text}
+use Rattle.th_runs.proofs.Declaring.{same_text}
 use Rattle.th_syntax.specs.declared.instr.StackOp.{StackOp}
 use Rattle.th_syntax.specs.declared.instr.StackOp.TheVariants as move
 use Rattle.th_runs.proofs.Taking.{class_named, IsInvoked, invoked_is, resolved_is, as_found, field_is, IsTaken, selected_for_is, special_is}
-use Rattle.th_runs.proofs.Fits.{operands, kinds_are, not_false, IntTop, int_top, LongTop, long_top, ReferenceTop, reference_top, popped_int_is, popped_long_is, popped_reference_is, IsReferenceValue, ValueTop, value_top, push_fits, push_is, fits_append, local_at, local_kind, store_int, store_long, store_reference, store_length, IsMoved, moves_fit, taken_last}
+use Rattle.th_runs.proofs.Fits.{operands, kinds_are, not_false, int_top, long_top, reference_top, popped_int_is, popped_long_is, popped_reference_is, IsReferenceValue, value_top, push_fits, local_at, local_kind, store_int, store_long, store_reference, store_length, moves_fit, taken_last}
 use Rattle.th_runs.proofs.Shaping.{new_shaped, array_shaped, field_found, put_shaped, known_here}
 use Rattle.th_runs.proofs.Calling.{arguments_fit, receiver_there, slots_counted, IsCalled, called}
 
@@ -131,7 +129,6 @@ module _ (files : List ClassFile) (linked : IsLinked files) (t : Top) (mine : Me
     (statics_count : length t.state.statics ≡ length (fields_of files))
     (heap_fits : AllByRecursion (IsShaped files) t.state.heap)
     (marks_count : length t.state.marks ≡ length (all_classes files)) where
-
   -- what an effect of an instruction of this row has; it isn't stuck
   pub data Suits (row : KindRow) : Effect → Type 0 where
     ends : Suits row Ends
@@ -382,12 +379,11 @@ module _ (files : List ClassFile) (linked : IsLinked files) (t : Top) (mine : Me
   invoked_of : (r : MemberRef) (static_one of_interface : Bool) → IsMethodFound files static_one of_interface r → (d : MethodType) × (method_type_of r.descriptor ≡ Some d) × (is_floating_method d ≡ false) → (m : Invoked) × (invoked files r ≡ Some m)
   invoked_of r static_one of_interface found described =
       let slots : ℕ = sum_by size_of described.0.params in
-      let counted : slots_of_arguments r.descriptor ≡ Some slots = ap (option_map (λ (x : MethodType). sum_by size_of x.params)) described.1 in
-      (
+      let counted : slots_of_arguments r.descriptor ≡ Some slots = ap (option_map (λ (x : MethodType). sum_by size_of x.params)) described.1 in (
         record { named = found.owner; declaring = found.found.0; method = found.found.1; slots = slots },
         ap (option_and_then (λ (n : ℕ). option_and_then (invoked_in files r n) (number_named files r.owner))) counted
-        ∙ ap (option_and_then (invoked_in files r slots)) found.owner_named
-        ∙ ap (option_map (λ (x : ℕ × MethodInfo). let i : Invoked = record { named = found.owner; declaring = x.0; method = x.1; slots = slots } in i)) found.resolved,
+            ∙ ap (option_and_then (invoked_in files r slots)) found.owner_named
+            ∙ ap (option_map (λ (x : ℕ × MethodInfo). let i : Invoked = record { named = found.owner; declaring = x.0; method = x.1; slots = slots } in i)) found.resolved,
       )
 
   selects : (r : MemberRef) (of_interface : Bool) → IsMethodFound files false of_interface r → (d : MethodType) × (method_type_of r.descriptor ≡ Some d) × (is_floating_method d ≡ false)

@@ -1,9 +1,9 @@
 -- What a table of kinds without conflict gives: each instruction fits what is known before it, and what it
 -- leaves is known behind it.
-use Rattle.std.proofs.Common.{◌≡◌, ℕ, zero, suc, ◌+◌, ◌-◌, ◌≤◌, ◌<◌, ◌==◌, ◌&&◌, ◌||◌, not, Bool, true, false, cond, if◌then◌else◌, List, [], ◌∷◌, ◌++◌, Option, None, Some, refl, sym, ap, subst, ◌∙◌, arith, length-append}
-use Rattle.std.specs.Prelude.{⊤, nat_le, nat_lt, length, replicate, Contains}
+use Rattle.std.proofs.Common.{◌≡◌, ℕ, zero, suc, ◌+◌, ◌-◌, ◌≤◌, ◌==◌, ◌||◌, not, Bool, true, false, if◌then◌else◌, List, [], ◌∷◌, ◌++◌, Option, Some, refl, sym, ap, subst, ◌∙◌, arith, length-append}
+use Rattle.std.specs.Prelude.{nat_le, nat_lt, length, replicate, Contains}
 use Rattle.std.specs.Option.{option_map_or}
-use Rattle.std.proofs.lemmas.Bool.{eqb-true, leb-true, ltb-false}
+use Rattle.std.proofs.lemmas.Bool.{eqb-true, ltb-false}
 use Rattle.std.proofs.lemmas.List.{length-replicate}
 use Rattle.th_syntax.specs.declared.class_file.Code.{Code}
 use Rattle.th_syntax.specs.declared.class_file.Member.{Member}
@@ -15,10 +15,9 @@ use Rattle.th_syntax.specs.declared.machine.Slot.{Slot}
 use Rattle.th_syntax.specs.declared.machine.Slot.TheVariants.{Holds}
 use Rattle.th_syntax.specs.Flow.{instr_in, successors_of}
 use Rattle.th_syntax.specs.Kinds.{is_same_kind, merged, merged_slots, KindsAt, NoKinds, OfKinds, DepthsDiffer, merged_at}
-use Rattle.th_syntax.specs.KindRows.{KindRow, row_of, slots_taken, locals_after, stack_after, after, are_wrong, is_misfit}
-use Rattle.th_syntax.specs.KindTable.{argument_slots, entry_kinds, is_conflict, is_other_return, is_short_of_locals, conflicts_at, HasKinds}
+use Rattle.th_syntax.specs.KindRows.{row_of, slots_taken, locals_after, stack_after, after, are_wrong, is_misfit}
+use Rattle.th_syntax.specs.KindTable.{argument_slots, is_conflict, is_other_return, is_short_of_locals, HasKinds}
 use Rattle.th_syntax.specs.Slots.{locals_with}
-use Rattle.th_syntax.proofs.MergingKinds.{same_kind_is}
 use Rattle.th_runs.specs.Fitting.{IsOfKind, AreOfKinds, BeginWithKinds}
 use Rattle.th_runs.proofs.Fits.{fits_length}
 

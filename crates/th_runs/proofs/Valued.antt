@@ -1,7 +1,7 @@
 -- What class files of the grammar have: closed code whose instructions name members by descriptors of the
 -- profile, constants of the types of their fields, and interfaces without code but `<clinit>`.
-use Rattle.std.proofs.Common.{◌≡◌, ℕ, zero, suc, ◌+◌, ◌*◌, ◌<◌, ◌≤◌, ◌==◌, ◌⊎◌, inl, inr, ◌&&◌, not, Bool, true, false, cond, if◌then◌else◌, List, [], ◌∷◌, ◌++◌, Option, None, Some, refl, sym, ap, subst, ◌∙◌, arith}
-use Rattle.std.specs.Prelude.{⊤, ℤ, reverse, unwrap_or, slice_get, nat_le, nat_lt, length, map, take, drop, min, codes, Result, Ok, Err, is_some}
+use Rattle.std.proofs.Common.{◌≡◌, ℕ, zero, suc, ◌+◌, ◌*◌, ◌<◌, ◌≤◌, ◌==◌, inl, inr, ◌&&◌, not, Bool, true, false, if◌then◌else◌, List, [], ◌∷◌, Option, None, Some, refl, sym, ap, subst, ◌∙◌, arith}
+use Rattle.std.specs.Prelude.{ℤ, reverse, unwrap_or, slice_get, nat_le, nat_lt, length, map, take, drop, codes, Result, Ok, Err}
 use Rattle.std.specs.List.{AllByRecursion, flat_map, filter_map}
 use Rattle.std.specs.Option.{option_and_then, option_map, option_map_or}
 use Rattle.std.specs.Str.{bytes_eq}
@@ -27,15 +27,15 @@ use Rattle.th_syntax.specs.declared.machine.Value.TheVariants.{Null as NullValue
 use Rattle.th_syntax.specs.KindRows.{int, long, ref}
 use Rattle.th_syntax.specs.Slots.{pushed}
 use Rattle.th_syntax.specs.Strings.{string_number_of}
-use Rattle.th_syntax.specs.Forms.{Form, whole, item, Placed, Found, ◌>>=◌, number_of, read}
+use Rattle.th_syntax.specs.Forms.{whole, Placed, Found, number_of, read}
 use Rattle.th_syntax.specs.ClassBytes.{Pool, Attribute, RawMember, RawClass, RawCode, run, u2, u4, counted, attribute, code}
 use Rattle.th_syntax.specs.PoolChecks.{utf8_of, class_of, integer_of, long_of, string_of}
 use Rattle.th_syntax.specs.Descriptors.{FieldType, byte_type, char_type, double_type, float_type, int_type, long_type, short_type, boolean_type, class_type, array_type, type_bytes, field_type_of}
-use Rattle.th_syntax.specs.Decoding.{instrs_in, instr_flaw, decoded, flow_flaws, flow_flaws_from, or_else, flaws_in, code_flaws, AreSpelled}
+use Rattle.th_syntax.specs.Decoding.{instrs_in, instr_flaw, decoded, flow_flaws, flow_flaws_from, or_else, flaws_in, code_flaws}
 use Rattle.th_syntax.specs.Checks.{constant_values, codes_of, constant_in, type_of_field, constant_of, whole_of, raw_code, raw_code_flaws, method_code_flaws, native_flaws, is_class_initialiser_at, has_code, interface_code_flaws, method_flaws, constant_flaws, fourth_pass}
 use Rattle.th_syntax.specs.ClassGrammar.{all_there, code_value, code_among, constant_among, constant_of_field, member_with, named, field_value, method_value, super_value, interface_values, field_values, method_values, class_file_of, IsClassFile}
-use Rattle.th_syntax.specs.Initial.{string_constant, constant_value}
-use Rattle.th_syntax.proofs.Inverting.{some_is, and_then_some, map_some, both}
+use Rattle.th_syntax.specs.Initial.{constant_value}
+use Rattle.th_syntax.proofs.Inverting.{some_is, and_then_some, map_some}
 use Rattle.th_syntax.proofs.ReadingParts.{read_split, whole_found}
 use Rattle.th_syntax.proofs.Spelling.{flawless_spelled}
 use Rattle.th_runs.specs.Fitting.{AreOfKinds, type_slots, IsOfType}

@@ -1,5 +1,5 @@
 -- What is asked of a program whose runs keep to kinds.
-use Rattle.std.specs.Prelude.{ℕ, ◌≡◌, true, false, not, List, [], codes, Some, slice_get, Contains, ⊤}
+use Rattle.std.specs.Prelude.{ℕ, ◌≡◌, true, false, List, codes, Some, slice_get, Contains, ⊤}
 use Rattle.th_base.specs.declared.class.MethodInfo.{MethodInfo}
 use Rattle.th_base.specs.Hierarchy.{declared_method}
 use Rattle.th_syntax.specs.declared.class_file.ClassFile.{ClassFile}

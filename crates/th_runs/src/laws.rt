@@ -1,18 +1,22 @@
-// What every run of the machine keeps, over all programs and both lifecycles.
-ghost use Rattle.std.specs.Prelude.{◌≡◌, false, List, [], Some};
+// What every run of the machine keeps, under both lifecycles.
 ghost use Rattle.std.specs.List.{AllByRecursion};
+ghost use Rattle.std.specs.Prelude.{◌≡◌, List, Some, [], false};
 ghost use Rattle.th_base.specs.declared.lifecycle.Lifecycle.{Lifecycle};
-ghost use Rattle.th_syntax.specs.declared.class_file.ClassFile.{ClassFile};
-ghost use Rattle.th_syntax.specs.declared.machine.State.{State};
-ghost use Rattle.th_syntax.specs.Run.{IsReachable};
-ghost use Rattle.th_syntax.specs.Step.{step};
-ghost use Rattle.th_syntax.specs.Linking.{IsLinked};
 ghost use Rattle.th_runs.specs.Addresses.{HasObjects};
+ghost use Rattle.th_runs.specs.Always.{IsAlways};
 ghost use Rattle.th_runs.specs.Entered.{InterfacesRunNoInstance, IsEntered};
 ghost use Rattle.th_runs.specs.FrameKinds.{IsOfKinds};
 ghost use Rattle.th_runs.specs.Sound.{IsSound};
+ghost use Rattle.th_runs.specs.Verified.{IsVerified};
+ghost use Rattle.th_syntax.specs.Linking.{IsLinked};
+ghost use Rattle.th_syntax.specs.Run.{IsReachable};
+ghost use Rattle.th_syntax.specs.Step.{step};
+ghost use Rattle.th_syntax.specs.declared.class_file.ClassFile.{ClassFile};
+ghost use Rattle.th_syntax.specs.declared.machine.State.{State};
 
-/// Where a reachable state holds an address, an object stands there.
+pub mod worked;
+
+/// Where a reachable state of any program holds an address, an object stands there.
 pub fn addresses_lead_to_objects()
     ensures { (lifecycle : Lifecycle) (files : List ClassFile) (s : State) → IsReachable lifecycle files s → HasObjects s }
 {}
@@ -40,4 +44,25 @@ pub fn running_states_have_a_step()
         → s.ended ≡ false → (s.frames ≡ [] → ⊥) → (w : State) × (step files s ≡ Some w) }
 {
     th_syntax::laws::linking::what_is_named_stands();
+}
+
+/// Class files of the grammar that are linked and whose code has kinds are a sound program, and their
+/// interfaces have no code but `<clinit>`.
+pub fn verified_programs_are_sound()
+    ensures sound { (files : List ClassFile) → IsVerified files → IsSound files }
+    ensures interfaces { (files : List ClassFile) → IsVerified files → InterfacesRunNoInstance files }
+{
+    th_syntax::laws::linking::what_is_named_stands();
+    th_syntax::laws::class_files::field_descriptors();
+}
+
+/// What each reachable state of a program keeps that was read, linked and has kinds.
+pub fn verified_runs_keep()
+    ensures { (lifecycle : Lifecycle) (files : List ClassFile) (s : State) → IsVerified files → IsReachable lifecycle files s → IsAlways files s }
+{
+    verified_programs_are_sound();
+    addresses_lead_to_objects();
+    running_classes_are_touched();
+    runs_keep_to_kinds();
+    th_syntax::laws::kept();
 }

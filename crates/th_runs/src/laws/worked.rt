@@ -1,0 +1,101 @@
+// Small states, programs and slots, and what the definitions say of them.
+ghost use Rattle.std.specs.List.{AllByRecursion};
+ghost use Rattle.std.specs.Prelude.{◌≡◌, ◌↔◌, ◌∷◌, List, None, Option, Some, [], codes, pos, true, ℕ};
+ghost use Rattle.th_base.specs.declared.number.ClassId.{ClassId};
+ghost use Rattle.th_base.specs.declared.number.MethodId.{MethodId};
+ghost use Rattle.th_runs.specs.Addresses.{HasObjects};
+ghost use Rattle.th_runs.specs.Entered.{InterfacesRunNoInstance, IsEntered};
+ghost use Rattle.th_runs.specs.Fitting.{AreOfKinds, BeginWithKinds, IsOfKind, IsOfType, IsShaped};
+ghost use Rattle.th_runs.specs.FrameKinds.{AreFramesOfKinds, IsAtKinds, IsCallingKinds};
+ghost use Rattle.th_runs.specs.Sound.{IsClosed};
+ghost use Rattle.th_runs.specs.Verified.{IsVerified};
+ghost use Rattle.th_runs.specs.Worked.{array_with, dangling_states, field_of, kinds_of_each, leading_state, one_field, other_slots, running_interface, slots_of_each};
+ghost use Rattle.th_syntax.specs.Machine.{class_id, method_id};
+ghost use Rattle.th_syntax.specs.Program.{is_launchable};
+ghost use Rattle.th_syntax.specs.WorkedFiles.{activity_value};
+ghost use Rattle.th_syntax.specs.declared.class_file.ClassFile.{ClassFile};
+ghost use Rattle.th_syntax.specs.declared.instr.Instr.TheVariants.{Goto, Nop, Return};
+ghost use Rattle.th_syntax.specs.declared.kind.SlotKind.TheVariants as kind;
+ghost use Rattle.th_syntax.specs.declared.kind.SlotKind.{SlotKind};
+ghost use Rattle.th_syntax.specs.declared.machine.Frame.TheVariants.{Code as CodeFrame, Init as InitFrame, Launch as LaunchFrame};
+ghost use Rattle.th_syntax.specs.declared.machine.Frame.{Frame};
+ghost use Rattle.th_syntax.specs.declared.machine.InitStage.{InitStage};
+ghost use Rattle.th_syntax.specs.declared.machine.LaunchStage.{LaunchStage};
+ghost use Rattle.th_syntax.specs.declared.machine.Mark.TheVariants.{Done, InProgress, Untouched};
+ghost use Rattle.th_syntax.specs.declared.machine.Slot.TheVariants.{Holds};
+ghost use Rattle.th_syntax.specs.declared.machine.Slot.{Slot};
+ghost use Rattle.th_syntax.specs.declared.machine.State.{State};
+ghost use Rattle.th_syntax.specs.declared.machine.Value.TheVariants.{Address, Int as IntValue, Long as LongValue, Null as NullValue};
+
+/// All addresses of a state lead to its one object; and one that is past it, in a local, on a stack, in a
+/// launch, a static field, a field, an element or a launched object, doesn't.
+pub fn addresses_are_looked_at()
+    ensures leading { HasObjects leading_state }
+    ensures dangling { AllByRecursion (λ (s : State). HasObjects s → ⊥) dangling_states }
+{}
+
+/// `java/lang/Object`'s constructor runs where its class is in progress or done, and not where it is untouched.
+pub fn entered_classes_are_looked_at()
+    ensures untouched { (locals stack : List Slot) → IsEntered [] (Untouched ∷ []) (CodeFrame (method_id 0) 0 locals stack) → ⊥ }
+    ensures in_progress { (locals stack : List Slot) → IsEntered [] (InProgress ∷ []) (CodeFrame (method_id 0) 0 locals stack) }
+    ensures done { (locals stack : List Slot) → IsEntered [] (Done ∷ []) (CodeFrame (method_id 0) 0 locals stack) }
+    ensures interface { InterfacesRunNoInstance running_interface → ⊥ }
+{}
+
+/// Slots of each kind, and slots of others; and lists of slots that are too short or too long.
+pub fn slots_are_told_apart()
+    ensures each { AreOfKinds kinds_of_each slots_of_each }
+    ensures others { AllByRecursion (λ (one : SlotKind × Slot). IsOfKind one.0 one.1 → ⊥) other_slots }
+    ensures stack_too_deep { AreOfKinds [] (Holds NullValue ∷ []) → ⊥ }
+    ensures stack_too_low { AreOfKinds (kind.Unusable ∷ []) [] → ⊥ }
+    ensures wrong_behind { AreOfKinds (kind.Ref ∷ kind.Int ∷ []) (Holds NullValue ∷ Holds NullValue ∷ []) → ⊥ }
+    ensures more_locals { BeginWithKinds kinds_of_each slots_of_each }
+    ensures locals_behind { BeginWithKinds (kind.Ref ∷ []) (Holds NullValue ∷ Holds NullValue ∷ []) }
+    ensures too_few_locals { BeginWithKinds (kind.Unusable ∷ []) [] → ⊥ }
+    ensures wrong_local { BeginWithKinds (kind.Ref ∷ kind.Int ∷ []) (Holds NullValue ∷ Holds NullValue ∷ []) → ⊥ }
+{}
+
+/// Values of types, and the shapes of objects.
+pub fn values_are_told_apart()
+    ensures int { IsOfType (codes "Z") (IntValue (pos 1)) }
+    ensures long { IsOfType (codes "J") (LongValue (pos 1)) }
+    ensures null { IsOfType (codes "Ljava/lang/Object;") NullValue }
+    ensures address { IsOfType (codes "[I") (Address 0) }
+    ensures int_as_long { IsOfType (codes "J") (IntValue (pos 1)) → ⊥ }
+    ensures null_as_int { IsOfType (codes "I") NullValue → ⊥ }
+    ensures int_as_reference { IsOfType (codes "[I") (IntValue (pos 1)) → ⊥ }
+    ensures object { IsShaped one_field (field_of (IntValue (pos 5))) }
+    ensures other_value { IsShaped one_field (field_of NullValue) → ⊥ }
+    ensures other_fields { IsShaped [] (field_of (IntValue (pos 5))) → ⊥ }
+    ensures array { IsShaped [] (array_with (IntValue (pos 5))) }
+    ensures other_element { IsShaped [] (array_with NullValue) → ⊥ }
+{}
+
+/// A frame at the top, or under an initialisation or a launch, stands at its instruction; one directly under
+/// a code frame waits for it; and a launch is of a launchable class.
+pub fn frames_are_looked_at()
+    ensures none { (files : List ClassFile) (over : Option ℕ) → AreFramesOfKinds files over [] }
+    ensures top { (files : List ClassFile) (m : MethodId) (offset : ℕ) (locals stack : List Slot) (below : List Frame)
+        → AreFramesOfKinds files None (CodeFrame m offset locals stack ∷ below) ↔ (IsAtKinds files m.0 offset locals stack × AreFramesOfKinds files (Some m.0) below) }
+    ensures waiting { (files : List ClassFile) (called : ℕ) (m : MethodId) (offset : ℕ) (locals stack : List Slot) (below : List Frame)
+        → AreFramesOfKinds files (Some called) (CodeFrame m offset locals stack ∷ below) ↔ (IsCallingKinds files called m.0 offset locals stack × AreFramesOfKinds files (Some m.0) below) }
+    ensures under_initialisation { (files : List ClassFile) (over : Option ℕ) (c : ClassId) (stage : InitStage) (below : List Frame)
+        → AreFramesOfKinds files over (InitFrame c stage ∷ below) ↔ AreFramesOfKinds files None below }
+    ensures under_launch { (files : List ClassFile) (over : Option ℕ) (c : ClassId) (stage : LaunchStage) (below : List Frame)
+        → AreFramesOfKinds files over (LaunchFrame c stage ∷ below) ↔ ((is_launchable files c.0 ≡ true) × AreFramesOfKinds files None below) }
+{}
+
+/// One `return` is closed code; no instruction, a jump past the code and one without another behind it aren't.
+pub fn closed_code_is_told_apart()
+    ensures closed { IsClosed ((0, Return) ∷ []) }
+    ensures nothing { IsClosed [] → ⊥ }
+    ensures jumps_away { IsClosed ((0, Goto 5) ∷ []) → ⊥ }
+    ensures falls_off { IsClosed ((0, Nop) ∷ []) → ⊥ }
+{}
+
+/// The class file of an Activity with a constructor, by itself, is a program that was read, linked and has kinds.
+pub fn activity_is_verified()
+    ensures { IsVerified (activity_value ∷ []) }
+{
+    th_syntax::laws::worked_files::activity_is_read();
+}
