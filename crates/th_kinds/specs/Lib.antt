@@ -1,0 +1,10 @@
+pub mod Flowing
+pub mod Rows
+pub mod States
+pub mod Walk
+pub mod Kept
+pub mod Listings
+pub mod Listed
+pub mod Here
+pub mod Places
+pub mod Inferred
