@@ -17,6 +17,3 @@ pub use query::{
     MOST_REGISTERS, MOST_STATICS, Query, Slot, Sym,
 };
 pub use sites::Sites;
-
-#[cfg(test)]
-mod tests;

@@ -28,6 +28,8 @@ mod linear_facts;
 #[cfg(test)]
 mod plans;
 #[cfg(test)]
+mod queries;
+#[cfg(test)]
 mod refutations;
 #[cfg(test)]
 mod register_form;

@@ -1,9 +1,9 @@
 // What no clause says: that copies succeed, and comparisons of sets that are spelled in two ways.
-use crate::{Query, Sites, Sym};
 use std::alloc::Global;
 use std::test::Fail;
 use th_base::{IdSet, Same, Seq, TryCopy};
 use th_linear::{Lin, Rel};
+use th_query::{Query, Sites, Sym};
 
 fn set_of(alloc: Global, sites: &[u32]) -> Result<Sites, Fail> {
     let mut set = IdSet::new(alloc);
