@@ -147,7 +147,7 @@ unusable_all zero s = tt
 unusable_all (suc n) s = (tt, unusable_all n s)
 
 -- the arguments have room
-room_enough : (m : Member) (code : Code) (t : ℕ → KindsAt) → HasKinds m code t → length (argument_slots m) ≤ code.max_locals
+pub room_enough : (m : Member) (code : Code) (t : ℕ → KindsAt) → HasKinds m code t → length (argument_slots m) ≤ code.max_locals
 room_enough m code t kinds = ltb-false code.max_locals (length (argument_slots m)) (first_false (is_short_of_locals m code) _ (kinds.fitting 0))
 
 by_room : (a c r l : ℕ) → a ≤ c → r ≡ c - a → l ≡ a + r → l ≡ c
