@@ -1,19 +1,18 @@
 -- The least table of a method has a kind for each of its locals, wherever it has kinds.
-use Rattle.std.proofs.Common.{◌≡◌, ℕ, zero, suc, ◌+◌, ◌-◌, ◌≤◌, ◌<◌, ◌==◌, Bool, true, false, cond, if◌then◌else◌, List, [], ◌∷◌, ◌++◌, Option, None, Some, refl, sym, ap, subst, ◌∙◌, arith, length-append}
-use Rattle.std.specs.Prelude.{nat_le, length, map, take, drop, reverse, replicate, get_or, set, slice_set, Contains}
+use Rattle.std.proofs.Common.{◌≡◌, ℕ, zero, suc, ◌+◌, ◌-◌, ◌≤◌, ◌==◌, Bool, true, false, if◌then◌else◌, List, [], ◌∷◌, ◌++◌, refl, sym, ap, subst, ◌∙◌, arith, length-append}
+use Rattle.std.specs.Prelude.{nat_le, length, replicate, slice_set}
 use Rattle.std.proofs.lemmas.Bool.{eq-eqb}
 use Rattle.std.proofs.lemmas.List.{length-replicate, length-set}
 use Rattle.th_syntax.specs.declared.class_file.Code.{Code}
 use Rattle.th_syntax.specs.declared.class_file.Member.{Member}
-use Rattle.th_syntax.specs.declared.instr.Instr.{Instr}
 use Rattle.th_syntax.specs.declared.kind.SlotKind.{SlotKind}
 use Rattle.th_syntax.specs.declared.kind.SlotKind.TheVariants as kind
-use Rattle.th_syntax.specs.Flow.{IsReached, start, onward, instr_in, successors_of}
-use Rattle.th_syntax.specs.Kinds.{merged, merged_slots, KindsAt, NoKinds, OfKinds, DepthsDiffer, merged_at}
+use Rattle.th_syntax.specs.Flow.{IsReached, start, onward}
+use Rattle.th_syntax.specs.Kinds.{merged, merged_slots, KindsAt, NoKinds, OfKinds, DepthsDiffer}
 use Rattle.th_syntax.specs.KindRows.{KindRow, Works, Loads, Stores, Increments, Moves, row_of, slots_of, slots_taken, without_second, without_first, changed, written, stored, locals_after, stack_after, after}
-use Rattle.th_syntax.specs.KindTable.{argument_slots, entry_kinds, IsHeld, IsClosedTable, IsLeastTable, HasKinds}
+use Rattle.th_syntax.specs.KindTable.{argument_slots, IsHeld, IsClosedTable, HasKinds}
 use Rattle.th_syntax.proofs.LeastKinds.{comes_along, comes_only_along}
-use Rattle.th_syntax.proofs.MergingKinds.{merged_unusable, length-slots}
+use Rattle.th_syntax.proofs.MergingKinds.{merged_unusable}
 use Rattle.th_runs.proofs.Tables.{locals_of, room_enough}
 
 -- ---- lists
