@@ -1,6 +1,6 @@
 -- Slots of kinds: their parts, what is pushed and popped, and what is stored into locals.
 use Rattle.std.proofs.Common.{◌≡◌, ℕ, ℤ, zero, suc, ◌+◌, ◌-◌, ◌⊎◌, inl, inr, not, Bool, true, false, if◌then◌else◌, List, [], ◌∷◌, ◌++◌, Option, None, Some, slice_get, slice_set, refl, sym, ap, subst, ◌∙◌, arith, append_assoc}
-use Rattle.std.specs.Prelude.{pos, nat_le, length, take, drop, reverse}
+use Rattle.std.specs.Prelude.{⊤, pos, nat_le, length, take, drop, reverse}
 use Rattle.std.specs.Option.{option_and_then, option_map_or}
 use Rattle.std.proofs.lemmas.List.{reverse-append, length-set, take-append-drop}
 use Rattle.th_base.specs.ValueKinds.{is_reference, is_long}
@@ -18,9 +18,26 @@ use Rattle.th_syntax.specs.Initial.{default_value}
 use Rattle.th_syntax.specs.Slots.{reference_of, pushed, Popped, popped, popped_int, popped_long, popped_reference, dropped, copied_below, stack_moved, stored}
 use Rattle.th_syntax.proofs.Inverting.{some_is}
 use Rattle.th_syntax.proofs.MergingKinds.{same_kind_is}
-use Rattle.th_runs.specs.Fitting.{IsOfKind, AreOfKinds, BeginWithKinds, IsOfType}
+use Rattle.th_runs.specs.Fitting.{IsOfKind, AreOfKinds, IsOfType}
 
 -- ---- lists of slots
+
+-- the first slots are of these kinds, one each
+abbrev pub BeginWithKinds : List SlotKind → List Slot → Type 0
+BeginWithKinds [] slots = ⊤
+BeginWithKinds (k ∷ kinds) [] = ⊥
+BeginWithKinds (k ∷ kinds) (s ∷ slots) = IsOfKind k s × BeginWithKinds kinds slots
+
+pub begin_all : (ks : List SlotKind) (ss : List Slot) → AreOfKinds ks ss → BeginWithKinds ks ss
+begin_all [] ss fit = tt
+begin_all (k ∷ ks) [] fit = absurd fit
+begin_all (k ∷ ks) (s ∷ ss) fit = (fit.0, begin_all ks ss fit.1)
+
+pub all_begun : (ks : List SlotKind) (ss : List Slot) → BeginWithKinds ks ss → length ss ≡ length ks → AreOfKinds ks ss
+all_begun [] [] fit level = tt
+all_begun [] (s ∷ ss) fit level = absurd (omega arith)
+all_begun (k ∷ ks) [] fit level = absurd fit
+all_begun (k ∷ ks) (s ∷ ss) fit level = (fit.0, all_begun ks ss fit.1 (omega arith))
 
 pub fits_length : (ks : List SlotKind) (ss : List Slot) → AreOfKinds ks ss → length ss ≡ length ks
 fits_length [] [] fit = refl

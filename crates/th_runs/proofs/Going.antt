@@ -38,11 +38,12 @@ use Rattle.th_syntax.specs.Linking.{Stands}
 use Rattle.th_syntax.proofs.Inverting.{some_is, all_append}
 use Rattle.th_syntax.proofs.Origins.{all_set, opened_from}
 use Rattle.th_syntax.proofs.Allowing.{allowed}
-use Rattle.th_runs.specs.Fitting.{AreOfKinds, BeginWithKinds, IsOfType, IsOfField, IsShaped}
+use Rattle.th_runs.specs.Fitting.{AreOfKinds, IsOfType, IsOfField, IsShaped}
 use Rattle.th_runs.specs.FrameKinds.{IsAtKinds, IsCallingKinds, AreFramesOfKinds, IsOfKinds}
 use Rattle.th_runs.specs.Sound.{IsClosed, IsSound}
-use Rattle.th_runs.proofs.Fits.{fits_length, fits_append}
+use Rattle.th_runs.proofs.Fits.{BeginWithKinds, begin_all, all_begun, fits_length, fits_append}
 use Rattle.th_runs.proofs.Suiting.{Suits, ends, goes, jumps, sets_static, sets_object, makes, opens, begins, hands_over, HasConstants, suits}
+use Rattle.th_runs.proofs.AllLocals.{after_length, all_locals}
 use Rattle.th_runs.proofs.Tables.{IsFitted, fitted, along, entered}
 
 -- ---- flow
@@ -165,7 +166,8 @@ module _ (files : List ClassFile) (sound : IsSound files) where
         local_kinds = entry.known.local_kinds;
         stack_kinds = entry.known.stack_kinds;
         known = entry.known.is;
-        locals_fit = entry.locals_fit;
+        locals_fit = all_begun entry.known.local_kinds (locals_with arguments code.max_locals) entry.locals_fit
+            (entry.count ∙ sym (all_locals owned.member code k.0 0 entry.known.local_kinds entry.known.stack_kinds k.1 entry.known.is));
         locals_count = entry.count;
         stack_fits = entry.known.stack_too [] tt;
         room = omega arith;
@@ -195,7 +197,8 @@ module _ (files : List ClassFile) (sound : IsSound files) where
           local_kinds = known.local_kinds;
           stack_kinds = known.stack_kinds;
           known = known.is;
-          locals_fit = known.locals_too locals_after_it locals_fit;
+          locals_fit = all_begun known.local_kinds locals_after_it (known.locals_too locals_after_it locals_fit)
+              (count ∙ here.locals_count ∙ sym (all_locals here.runs.owned.member here.runs.code here.runs.table next known.local_kinds known.stack_kinds here.runs.kinds known.is));
           locals_count = count ∙ here.locals_count;
           stack_fits = known.stack_too stack_after_it stack_fits;
           room = subst (λ n. n ≤ here.runs.code.max_stack) (sym (fits_length (stack_after (row_of i) here.stack_kinds) stack_after_it stack_fits)) fit.room;
@@ -251,7 +254,8 @@ module _ (files : List ClassFile) (sound : IsSound files) where
               local_kinds = known.local_kinds;
               stack_kinds = known.stack_kinds;
               known = known.is;
-              locals_fit = known.locals_too locals_below waits.locals_fit;
+              locals_fit = all_begun known.local_kinds locals_below (known.locals_too locals_below (begin_all (locals_after (row_of waits.i) waits.local_kinds) locals_below waits.locals_fit))
+                  (waits.locals_count ∙ sym (all_locals waits.runs.owned.member waits.runs.code waits.runs.table next.0 known.local_kinds known.stack_kinds waits.runs.kinds known.is));
               locals_count = waits.locals_count;
               stack_fits = known.stack_too (results ++ stack_below) whole;
               room = subst (λ n. n ≤ waits.runs.code.max_stack) (sym (fits_length (stack_after (row_of waits.i) waits.stack_kinds) (results ++ stack_below) whole)) its_fit.room;
@@ -263,7 +267,7 @@ module _ (files : List ClassFile) (sound : IsSound files) where
     handed_by results (LaunchFrame c stage ∷ frames) results_fit all = (LaunchFrame c stage ∷ frames, refl, all)
 
     abbrev IsSuited : Effect → Type 0
-    IsSuited e = Suits files sound.linked (top_at s method offset locals stack below) here.runs.owned.member here.local_kinds here.stack_kinds here.locals_fit here.stack_fits good.statics good.statics_count good.heap good.marks_count (row_of i) e
+    IsSuited e = Suits files sound.linked (top_at s method offset locals stack below) here.runs.owned.member here.local_kinds here.stack_kinds (begin_all here.local_kinds locals here.locals_fit) here.stack_fits good.statics good.statics_count good.heap good.marks_count (row_of i) e
 
     goes_to : (e : Effect) → IsSuited e → Flows i e → (w : State) × (after files (top_at s method offset locals stack below) e ≡ Some w) × IsOfKinds files w
     goes_to _ ends flow = (ended_state s, refl, record { frames = good.frames; statics = good.statics; statics_count = good.statics_count; heap = good.heap; marks_count = good.marks_count })
@@ -304,7 +308,10 @@ module _ (files : List ClassFile) (sound : IsSound files) where
               i = i;
               stands = at;
               falls = falls;
-              locals_fit = locals_fit;
+              locals_fit = all_begun (locals_after (row_of i) here.local_kinds) locals locals_fit
+                  (here.locals_count
+                  ∙ sym (after_length (row_of i) here.local_kinds
+                  ∙ all_locals here.runs.owned.member here.runs.code here.runs.table offset here.local_kinds here.stack_kinds here.runs.kinds here.known));
               locals_count = here.locals_count;
               stack_fits = begun.stack_fits;
               callee = begun.owned;
@@ -347,12 +354,12 @@ module _ (files : List ClassFile) (sound : IsSound files) where
       let reached : IsReachedInstr files i.0 = record { method = method.0; offset = offset; stands = at; reached = path } in
       let t = top_at s method offset locals stack below in
       let f = fitted here.runs.owned.member here.runs.code here.runs.table offset i.0 here.local_kinds here.stack_kinds here.runs.kinds i.1 here.known in
-      let constants : HasConstants files sound.linked t here.runs.owned.member here.local_kinds here.stack_kinds here.locals_fit here.stack_fits good.statics good.statics_count good.heap good.marks_count i.0 =
+      let constants : HasConstants files sound.linked t here.runs.owned.member here.local_kinds here.stack_kinds (begin_all here.local_kinds locals here.locals_fit) here.stack_fits good.statics good.statics_count good.heap good.marks_count i.0 =
       record {
         strings = λ text e. sound.strings text (subst (IsReachedInstr files) e reached);
         news = λ name e. sound.news name (subst (IsReachedInstr files) e reached);
       } in
-      let suited = suits files sound.linked t here.runs.owned.member here.local_kinds here.stack_kinds here.locals_fit here.stack_fits good.statics good.statics_count good.heap good.marks_count
+      let suited = suits files sound.linked t here.runs.owned.member here.local_kinds here.stack_kinds (begin_all here.local_kinds locals here.locals_fit) here.stack_fits good.statics good.statics_count good.heap good.marks_count
       i.0 f.enough f.right f.other (named i.0 reached) (sound.described i.0 reached) constants in
       let w = goes_to s method offset locals stack below good here frames.1 i.0 i.1 (effect files t i.0) suited (flows files t i.0 (effect files t i.0) (allowed files t i.0)) in
       record { i = i.0; stands = at; next = w.0; gives = w.1; kinds = w.2 }

@@ -12,6 +12,7 @@ pub mod Shaping
 pub mod Calling
 pub mod Suiting
 pub mod Tables
+pub mod AllLocals
 pub mod Going
 pub mod Running
 pub mod Spelt

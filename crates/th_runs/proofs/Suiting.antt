@@ -51,14 +51,14 @@ use Rattle.th_syntax.specs.LinkChecks.{use_of}
 use Rattle.th_syntax.specs.Linking.{IsLinked, IsFieldFound, IsMethodFound, Stands}
 use Rattle.th_syntax.proofs.Inverting.{all_at}
 use Rattle.th_syntax.proofs.Origins.{all_set}
-use Rattle.th_runs.specs.Fitting.{IsOfKind, AreOfKinds, BeginWithKinds, type_slots, IsOfType, IsOfField, IsShaped}
+use Rattle.th_runs.specs.Fitting.{IsOfKind, AreOfKinds, type_slots, IsOfType, IsOfField, IsShaped}
 use Rattle.th_runs.specs.Sound.{IsDescribed}
 use Rattle.th_runs.proofs.Leading.{instance_stands, array_stands}
 use Rattle.th_runs.proofs.Declaring.{same_text}
 use Rattle.th_syntax.specs.declared.instr.StackOp.{StackOp}
 use Rattle.th_syntax.specs.declared.instr.StackOp.TheVariants as move
 use Rattle.th_runs.proofs.Taking.{class_named, IsInvoked, invoked_is, resolved_is, as_found, field_is, IsTaken, selected_for_is, special_is}
-use Rattle.th_runs.proofs.Fits.{operands, kinds_are, not_false, int_top, long_top, reference_top, popped_int_is, popped_long_is, popped_reference_is, IsReferenceValue, value_top, push_fits, local_at, local_kind, store_int, store_long, store_reference, store_length, moves_fit, taken_last}
+use Rattle.th_runs.proofs.Fits.{BeginWithKinds, operands, kinds_are, not_false, int_top, long_top, reference_top, popped_int_is, popped_long_is, popped_reference_is, IsReferenceValue, value_top, push_fits, local_at, local_kind, store_int, store_long, store_reference, store_length, moves_fit, taken_last}
 use Rattle.th_runs.proofs.Shaping.{new_shaped, array_shaped, field_found, put_shaped, known_here}
 use Rattle.th_runs.proofs.Calling.{arguments_fit, receiver_there, slots_counted, IsCalled, called}
 

@@ -18,8 +18,8 @@ use Rattle.th_syntax.specs.Kinds.{is_same_kind, merged, merged_slots, KindsAt, N
 use Rattle.th_syntax.specs.KindRows.{row_of, slots_taken, locals_after, stack_after, after, are_wrong, is_misfit}
 use Rattle.th_syntax.specs.KindTable.{argument_slots, is_conflict, is_other_return, is_short_of_locals, HasKinds}
 use Rattle.th_syntax.specs.Slots.{locals_with}
-use Rattle.th_runs.specs.Fitting.{IsOfKind, AreOfKinds, BeginWithKinds}
-use Rattle.th_runs.proofs.Fits.{fits_length}
+use Rattle.th_runs.specs.Fitting.{IsOfKind, AreOfKinds}
+use Rattle.th_runs.proofs.Fits.{BeginWithKinds, fits_length}
 
 -- ---- tests that fail
 
@@ -147,7 +147,7 @@ unusable_all zero s = tt
 unusable_all (suc n) s = (tt, unusable_all n s)
 
 -- the arguments have room
-room_enough : (m : Member) (code : Code) (t : ℕ → KindsAt) → HasKinds m code t → length (argument_slots m) ≤ code.max_locals
+pub room_enough : (m : Member) (code : Code) (t : ℕ → KindsAt) → HasKinds m code t → length (argument_slots m) ≤ code.max_locals
 room_enough m code t kinds = ltb-false code.max_locals (length (argument_slots m)) (first_false (is_short_of_locals m code) _ (kinds.fitting 0))
 
 by_room : (a c r l : ℕ) → a ≤ c → r ≡ c - a → l ≡ a + r → l ≡ c

@@ -34,12 +34,6 @@ AreOfKinds [] (s ∷ slots) = ⊥
 AreOfKinds (k ∷ kinds) [] = ⊥
 AreOfKinds (k ∷ kinds) (s ∷ slots) = IsOfKind k s × AreOfKinds kinds slots
 
--- the first slots are of these kinds, one each
-abbrev pub BeginWithKinds : List SlotKind → List Slot → Type 0
-BeginWithKinds [] slots = ⊤
-BeginWithKinds (k ∷ kinds) [] = ⊥
-BeginWithKinds (k ∷ kinds) (s ∷ slots) = IsOfKind k s × BeginWithKinds kinds slots
-
 -- ---- values
 
 -- the slots of a value of this type, by its descriptor

@@ -17,7 +17,7 @@ use Rattle.th_syntax.specs.Kinds.{KindsAt, OfKinds}
 use Rattle.th_syntax.specs.KindRows.{row_of, result_slots, slots_taken, slots_given, locals_after}
 use Rattle.th_syntax.specs.KindTable.{HasKinds}
 use Rattle.th_syntax.specs.Program.{Owned, all_classes, fields_of, methods_of, is_launchable}
-use Rattle.th_runs.specs.Fitting.{AreOfKinds, BeginWithKinds, IsOfField, IsShaped}
+use Rattle.th_runs.specs.Fitting.{AreOfKinds, IsOfField, IsShaped}
 
 -- a method with code, and the table of its kinds, in which there is no conflict
 pub record IsCode (files : List ClassFile) (method : ℕ) : Type 0 where
@@ -34,7 +34,7 @@ pub record IsAtKinds (files : List ClassFile) (method offset : ℕ) (locals stac
   pub local_kinds : List SlotKind
   pub stack_kinds : List SlotKind
   pub known : runs.table offset ≡ OfKinds local_kinds stack_kinds
-  pub locals_fit : BeginWithKinds local_kinds locals
+  pub locals_fit : AreOfKinds local_kinds locals
   pub locals_count : length locals ≡ runs.code.max_locals
   pub stack_fits : AreOfKinds stack_kinds stack
   pub room : length stack ≤ runs.code.max_stack
@@ -49,7 +49,7 @@ pub record IsCallingKinds (files : List ClassFile) (called method offset : ℕ) 
   pub i : Instr
   pub stands : instr_in runs.code.instrs offset ≡ Some i
   pub falls : FallsThrough i
-  pub locals_fit : BeginWithKinds (locals_after (row_of i) local_kinds) locals
+  pub locals_fit : AreOfKinds (locals_after (row_of i) local_kinds) locals
   pub locals_count : length locals ≡ runs.code.max_locals
   pub stack_fits : AreOfKinds (drop (slots_taken (row_of i)) stack_kinds) stack
   pub callee : Owned

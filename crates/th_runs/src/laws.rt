@@ -1,6 +1,6 @@
 // What every run of the machine keeps, under both lifecycles.
 ghost use Rattle.std.specs.List.{AllByRecursion};
-ghost use Rattle.std.specs.Prelude.{◌≡◌, List, Some, [], false};
+ghost use Rattle.std.specs.Prelude.{◌≡◌, List, Some, [], false, length, ℕ};
 ghost use Rattle.th_base.specs.declared.lifecycle.Lifecycle.{Lifecycle};
 ghost use Rattle.th_runs.specs.Addresses.{HasObjects};
 ghost use Rattle.th_runs.specs.Always.{IsAlways};
@@ -8,10 +8,15 @@ ghost use Rattle.th_runs.specs.Entered.{InterfacesRunNoInstance, IsEntered};
 ghost use Rattle.th_runs.specs.FrameKinds.{IsOfKinds};
 ghost use Rattle.th_runs.specs.Sound.{IsSound};
 ghost use Rattle.th_runs.specs.Verified.{IsVerified};
+ghost use Rattle.th_syntax.specs.KindTable.{HasKinds};
+ghost use Rattle.th_syntax.specs.Kinds.{KindsAt, OfKinds};
 ghost use Rattle.th_syntax.specs.Linking.{IsLinked};
 ghost use Rattle.th_syntax.specs.Run.{IsReachable};
 ghost use Rattle.th_syntax.specs.Step.{step};
 ghost use Rattle.th_syntax.specs.declared.class_file.ClassFile.{ClassFile};
+ghost use Rattle.th_syntax.specs.declared.class_file.Code.{Code};
+ghost use Rattle.th_syntax.specs.declared.class_file.Member.{Member};
+ghost use Rattle.th_syntax.specs.declared.kind.SlotKind.{SlotKind};
 ghost use Rattle.th_syntax.specs.declared.machine.State.{State};
 
 pub mod worked;
@@ -56,6 +61,12 @@ pub fn verified_programs_are_sound()
     th_syntax::laws::class_files::field_descriptors();
 }
 
+/// A table of kinds without conflict knows each local of the method, wherever it knows any.
+pub fn tables_know_all_locals()
+    ensures { (m : Member) (code : Code) (t : ℕ → KindsAt) (offset : ℕ) (locals stack : List SlotKind) → HasKinds m code t
+        → t offset ≡ OfKinds locals stack → length locals ≡ code.max_locals }
+{}
+
 /// What each reachable state of a program keeps that was read, linked and has kinds.
 pub fn verified_runs_keep()
     ensures { (lifecycle : Lifecycle) (files : List ClassFile) (s : State) → IsVerified files → IsReachable lifecycle files s → IsAlways files s }
@@ -65,4 +76,13 @@ pub fn verified_runs_keep()
     running_classes_are_touched();
     runs_keep_to_kinds();
     th_syntax::laws::kept();
+}
+
+/// A reachable state of such a program with a frame, whose run hasn't ended, has a step.
+pub fn verified_states_have_a_step()
+    ensures { (lifecycle : Lifecycle) (files : List ClassFile) (s : State) → IsVerified files → IsReachable lifecycle files s
+        → s.ended ≡ false → (s.frames ≡ [] → ⊥) → (w : State) × (step files s ≡ Some w) }
+{
+    verified_programs_are_sound();
+    running_states_have_a_step();
 }

@@ -5,7 +5,7 @@ ghost use Rattle.th_base.specs.declared.number.ClassId.{ClassId};
 ghost use Rattle.th_base.specs.declared.number.MethodId.{MethodId};
 ghost use Rattle.th_runs.specs.Addresses.{HasObjects};
 ghost use Rattle.th_runs.specs.Entered.{InterfacesRunNoInstance, IsEntered};
-ghost use Rattle.th_runs.specs.Fitting.{AreOfKinds, BeginWithKinds, IsOfKind, IsOfType, IsShaped};
+ghost use Rattle.th_runs.specs.Fitting.{AreOfKinds, IsOfKind, IsOfType, IsShaped};
 ghost use Rattle.th_runs.specs.FrameKinds.{AreFramesOfKinds, IsAtKinds, IsCallingKinds};
 ghost use Rattle.th_runs.specs.Sound.{IsClosed};
 ghost use Rattle.th_runs.specs.Verified.{IsVerified};
@@ -49,10 +49,6 @@ pub fn slots_are_told_apart()
     ensures stack_too_deep { AreOfKinds [] (Holds NullValue ∷ []) → ⊥ }
     ensures stack_too_low { AreOfKinds (kind.Unusable ∷ []) [] → ⊥ }
     ensures wrong_behind { AreOfKinds (kind.Ref ∷ kind.Int ∷ []) (Holds NullValue ∷ Holds NullValue ∷ []) → ⊥ }
-    ensures more_locals { BeginWithKinds kinds_of_each slots_of_each }
-    ensures locals_behind { BeginWithKinds (kind.Ref ∷ []) (Holds NullValue ∷ Holds NullValue ∷ []) }
-    ensures too_few_locals { BeginWithKinds (kind.Unusable ∷ []) [] → ⊥ }
-    ensures wrong_local { BeginWithKinds (kind.Ref ∷ kind.Int ∷ []) (Holds NullValue ∷ Holds NullValue ∷ []) → ⊥ }
 {}
 
 /// Values of types, and the shapes of objects.
