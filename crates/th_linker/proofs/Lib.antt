@@ -1,0 +1,11 @@
+pub mod BuiltIns
+pub mod Finding
+pub mod Handled
+pub mod InOrder
+pub mod Known
+pub mod MembersFound
+pub mod NewNames
+pub mod Numbers
+pub mod Ordered
+pub mod OwnPlaces
+pub mod Reachable

@@ -1,0 +1,4 @@
+pub mod Checking
+pub mod Linkable
+pub mod Sites
+pub mod Named
