@@ -1,12 +1,11 @@
 -- The producers that the index gives are those of the edge, in order.
 use Rattle.std.proofs.Common.{◌≡◌, ◌⊎◌, inl, inr, ℕ, zero, suc, ◌+◌, ◌<◌, ◌==◌, Bool, true, false, List, [], ◌∷◌, ◌++◌, length, map, filter, take, get_or, Option, None, Some, slice_get, refl, sym, ap, subst, arith, ◌∙◌, if◌then◌else◌}
-use Rattle.std.specs.Prelude.{◌↔◌, ◌&&◌, nat_lt}
-use Rattle.std.specs.List.{AllByRecursion, list_any}
+use Rattle.std.specs.Prelude.{◌&&◌, nat_lt}
+use Rattle.std.specs.List.{AllByRecursion}
 use Rattle.std.specs.Option.{option_map_or}
 use Rattle.std.proofs.lemmas.Bool.{eqb-true, eq-eqb}
 use Rattle.th_base.specs.declared.class.ClassInfo.{ClassInfo}
 use Rattle.th_base.specs.declared.number.FieldId.{FieldId}
-use Rattle.th_base.specs.declared.number.NodeId.{NodeId}
 use Rattle.th_base.specs.declared.number.SiteId.{SiteId}
 use Rattle.th_base.specs.IdSet.{has, IsAscending}
 use Rattle.th_ir.specs.declared.graph.Edge.{Edge}
@@ -22,14 +21,13 @@ use Rattle.th_ir.specs.FactSets.{FactSets, AscendBy}
 use Rattle.th_ir.specs.Graph.{StoreGives, StoresAt, HoldsConstant, Produces, producer_key, AreProducers}
 use Rattle.th_ir.specs.Program.{Among, node_at}
 use Rattle.th_ir.specs.Sites.{is_ref_array, can_store}
-use Rattle.th_ir.specs.WellFormed.{places_from}
 use Rattle.th_ir.proofs.Plain.{and_parts, and_both}
 use Rattle.th_flow.proofs.Rows.{passing, places_ascend}
-use Rattle.th_graph.specs.Searching.{row_at, row_of}
-use Rattle.th_graph.specs.Stores.{bucket, static_key_of, static_key, field_key_of, field_key, constant_key, stores_element, AreRows, IsIndexOf, candidates, store_test, stores_test, store_at, holds_at, any_holds, constants_at}
+use Rattle.th_graph.specs.Searching.{row_at}
+use Rattle.th_graph.specs.Stores.{bucket, static_key_of, static_key, field_key_of, field_key, constant_key, stores_element, IsIndexOf, candidates, store_test, stores_test, store_at, holds_at, any_holds, constants_at}
 use Rattle.th_graph.specs.declared.store_index.StoreIndex.{StoreIndex}
-use Rattle.th_graph.proofs.Orders.{IsBelow, below_first, below_next, among_cases, among_more, among_either, among_left, among_right, among_mapped, mapped_among, has_among, among_has, any_among, among_any, ascend_cons, ascend_none, ascend_append, ascend_numbers}
-use Rattle.th_graph.proofs.TargetRows.{HasKey, in_row, row_in, row_ascends}
+use Rattle.th_graph.proofs.Orders.{IsBelow, below_first, below_next, among_cases, among_more, among_either, among_left, among_right, among_mapped, mapped_among, has_among, any_among, among_any, ascend_cons, ascend_none, ascend_append, ascend_numbers}
+use Rattle.th_graph.proofs.TargetRows.{row_in, row_ascends}
 
 -- ---- rows
 

@@ -1,5 +1,5 @@
 -- Private to the crate: the stores of a program, by what they store into, and what each gives.
-use Rattle.std.specs.Prelude.{ℕ, ◌≡◌, ◌==◌, ◌&&◌, ◌+◌, ◌<◌, ◌^◌, nat_lt, Bool, true, false, List, [], ◌∷◌, length, map, filter, Option, None, Some, slice_get, if◌then◌else◌}
+use Rattle.std.specs.Prelude.{ℕ, ◌≡◌, ◌==◌, ◌&&◌, ◌+◌, ◌<◌, nat_lt, Bool, true, false, List, [], ◌∷◌, length, map, Option, None, Some, slice_get, if◌then◌else◌}
 use Rattle.std.specs.List.{list_any}
 use Rattle.std.specs.Option.{option_map_or}
 use Rattle.th_base.specs.declared.class.ClassInfo.{ClassInfo}
@@ -14,11 +14,11 @@ use Rattle.th_ir.specs.declared.graph.Producer.TheVariants.{Node as StoreAt, Con
 use Rattle.th_ir.specs.declared.program.Node.{Node}
 use Rattle.th_ir.specs.declared.program.RegProgram.{RegProgram}
 use Rattle.th_ir.specs.declared.stmt.Stmt.{Stmt}
-use Rattle.th_ir.specs.declared.stmt.Stmt.TheVariants.{Nop, PutStatic, PutField, PutElem}
+use Rattle.th_ir.specs.declared.stmt.Stmt.TheVariants.{PutStatic, PutField, PutElem}
 use Rattle.th_ir.specs.Fields.{has_field}
 use Rattle.th_ir.specs.FactSets.{FactSets}
 use Rattle.th_ir.specs.Program.{node_at}
-use Rattle.th_ir.specs.Sites.{is_array_text, is_ref_array, can_store}
+use Rattle.th_ir.specs.Sites.{is_ref_array, can_store}
 use Rattle.th_ir.specs.WellFormed.{places_from}
 use Rattle.th_graph.specs.Searching.{row_at, row_of}
 use Rattle.th_graph.specs.declared.store_index.StoreIndex.{StoreIndex}

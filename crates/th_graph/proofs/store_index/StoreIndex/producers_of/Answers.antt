@@ -2,7 +2,7 @@ use Rattle.std.proofs.Common.{◌≡◌, ◌++◌, List, ℕ, map, filter, sym, 
 use Rattle.th_ir.specs.declared.graph.Producer.{Producer}
 use Rattle.th_ir.specs.FactSets.{sets_of}
 use Rattle.th_ir.specs.Graph.{AreProducers}
-use Rattle.th_graph.specs.Stores.{stores_test, store_at, candidates, constants_at}
+use Rattle.th_graph.specs.Stores.{stores_test, store_at, constants_at}
 use Rattle.th_graph.proofs.Producing.{listed, listed_producers}
 use Rattle.th_graph.proofs.store_index.StoreIndex.producers_of.Goals as goal
 
