@@ -1,5 +1,5 @@
 -- What searches find are the alarms, in order, and a limit is passed exactly where there are more.
-use Rattle.std.proofs.Common.{◌≡◌, ◌⊎◌, inl, inr, ℕ, zero, suc, ◌+◌, ◌<◌, ◌≤◌, ◌==◌, Bool, true, false, List, [], ◌∷◌, ◌++◌, length, map, take, Option, None, Some, slice_get, get_or, refl, sym, ap, subst, arith, ◌∙◌, if◌then◌else◌}
+use Rattle.std.proofs.Common.{◌≡◌, inl, inr, ℕ, zero, suc, ◌+◌, ◌<◌, ◌≤◌, ◌==◌, true, false, List, [], ◌∷◌, ◌++◌, length, take, Option, None, Some, slice_get, get_or, refl, sym, ap, subst, arith, ◌∙◌, if◌then◌else◌}
 use Rattle.std.specs.Prelude.{◌↔◌, is_some, nat_lt}
 use Rattle.std.specs.List.{AllByRecursion, list_any}
 use Rattle.std.specs.List.Sorted.{IsStrictlySortedBy}
@@ -9,27 +9,24 @@ use Rattle.std.proofs.lemmas.Bool.{eqb-true, eq-eqb, or_cases, or_left, or_right
 use Rattle.std.proofs.lemmas.Cmp.{nat_list_cmp_total}
 use Rattle.std.proofs.lemmas.Option.{slice_get_within}
 use Rattle.th_base.specs.declared.class.ClassInfo.{ClassInfo}
-use Rattle.th_base.specs.declared.number.ClassId.{ClassId}
 use Rattle.th_base.specs.declared.number.EdgeId.{EdgeId}
 use Rattle.th_base.specs.declared.number.FieldId.{FieldId}
 use Rattle.th_base.specs.declared.number.SiteId.{SiteId}
 use Rattle.th_base.specs.IdSet.{has, IsAscending}
-use Rattle.th_base.specs.Launchable.{is_activity}
 use Rattle.th_ir.specs.declared.graph.Alarm.{Alarm}
 use Rattle.th_ir.specs.declared.graph.Edge.{Edge}
-use Rattle.th_ir.specs.declared.graph.Edge.TheVariants.{Static, Field, Element}
+use Rattle.th_ir.specs.declared.graph.Edge.TheVariants.{Static}
 use Rattle.th_ir.specs.declared.program.RegProgram.{RegProgram}
 use Rattle.th_ir.specs.Fields.{is_file_static, is_ref_field}
 use Rattle.th_ir.specs.FactSets.{AscendBy}
 use Rattle.th_ir.specs.Graph.{LeadsTo, begins, by_field, by_element, alarm_key, IsAlarm, AreAlarms}
 use Rattle.th_ir.specs.Program.{Among}
-use Rattle.th_ir.specs.Sites.{site_class}
 use Rattle.th_ir.proofs.Plain.{some_is, get_within, has_at}
 use Rattle.th_base.proofs.Membership.{has_append_left, has_push_cases, has_push}
-use Rattle.th_paths.specs.Paths.{IsPath, Avoids, IsWay, IsLeastWay, TellsLeast, TellEachLeast}
-use Rattle.th_graph.specs.Searching.{AreTargetsBelow, class_id, alarm_of, hits, Adds, IsSearched, AreAlarmsOf, AreAllOrPass, PassLimit, is_root, is_past}
+use Rattle.th_paths.specs.Paths.{IsPath, Avoids, IsWay, TellsLeast, TellEachLeast}
+use Rattle.th_graph.specs.Searching.{AreTargetsBelow, alarm_of, hits, Adds, IsSearched, AreAlarmsOf, AreAllOrPass, is_root, is_past}
 use Rattle.th_graph.specs.declared.targets.Targets.{Targets}
-use Rattle.th_graph.proofs.Orders.{IsBelow, below_first, below_next, among_first, among_more, among_cases, among_either, among_left, among_right, has_among, among_has, among_any, all_below, ascend_cons, ascend_none, ascend_append}
+use Rattle.th_graph.proofs.Orders.{IsBelow, below_first, below_next, among_more, among_cases, among_either, among_left, among_right, has_among, among_has, among_any, all_below, ascend_cons, ascend_none, ascend_append}
 use Rattle.th_graph.proofs.TargetRows.{site_class_inside}
 use Rattle.th_graph.specs.Graphs.{AreFieldsNumbered}
 use Rattle.th_graph.specs.Tables.{file_statics_from}

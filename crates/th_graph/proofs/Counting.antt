@@ -1,5 +1,5 @@
 -- Counts that are taken away from a limit, one after the other.
-use Rattle.std.proofs.Common.{◌≡◌, ◌⊎◌, inl, inr, ℕ, ◌+◌, ◌-◌, ◌<◌, ◌≤◌, Bool, true, false, Option, None, Some, refl, sym, ap, arith, ◌∙◌, if◌then◌else◌}
+use Rattle.std.proofs.Common.{◌≡◌, inl, inr, ℕ, ◌+◌, ◌-◌, ◌<◌, ◌≤◌, Bool, true, false, Option, None, Some, refl, sym, ap, arith, ◌∙◌, if◌then◌else◌}
 use Rattle.std.specs.Prelude.{nat_le, nat_lt, not, is_some, is_none}
 use Rattle.std.proofs.lemmas.Bool.{cases_lt}
 use Rattle.th_graph.specs.Tables.{left_after}

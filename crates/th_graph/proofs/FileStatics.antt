@@ -1,5 +1,5 @@
 -- The static fields of the classes of files: which they are, and that they ascend.
-use Rattle.std.proofs.Common.{◌≡◌, ℕ, zero, suc, ◌+◌, ◌<◌, Bool, true, false, List, [], ◌∷◌, ◌++◌, length, map, filter, Option, None, Some, slice_get, refl, sym, ap, subst, arith, ◌∙◌, if◌then◌else◌}
+use Rattle.std.proofs.Common.{◌≡◌, ℕ, zero, suc, ◌+◌, Bool, true, false, List, [], ◌∷◌, ◌++◌, length, map, filter, Option, None, Some, slice_get, refl, sym, ap, subst, arith, ◌∙◌, if◌then◌else◌}
 use Rattle.std.specs.Prelude.{◌&&◌, ◌↔◌, nat_le}
 use Rattle.std.specs.Option.{option_map_or}
 use Rattle.th_base.specs.declared.built_in.TheConstants.{BUILT_IN_COUNT}
@@ -10,7 +10,6 @@ use Rattle.th_base.specs.IdSet.{has, IsAscending}
 use Rattle.th_ir.specs.Fields.{owned_fields_from, owned_fields, is_file_static}
 use Rattle.th_ir.specs.WellFormed.{places_from}
 use Rattle.th_flow.proofs.Rows.{place_passes, passing, places_ascend}
-use Rattle.th_ir.proofs.Plain.{same_found}
 use Rattle.th_graph.specs.Graphs.{AreFieldsNumbered}
 use Rattle.th_graph.specs.Tables.{declared_statics, own_statics, file_statics_from}
 

@@ -1,7 +1,7 @@
 -- The edges that are made of facts are those of the heap graph, in order.
-use Rattle.std.proofs.Common.{◌≡◌, ◌⊎◌, inl, inr, ℕ, zero, suc, ◌+◌, ◌<◌, ◌≤◌, ◌==◌, Bool, true, false, List, [], ◌∷◌, ◌++◌, length, map, Option, None, Some, slice_get, refl, sym, ap, subst, arith, ◌∙◌}
-use Rattle.std.specs.Prelude.{◌↔◌, ◌&&◌}
-use Rattle.std.specs.List.{AllByRecursion, flat_map, list_any}
+use Rattle.std.proofs.Common.{◌≡◌, inl, inr, ℕ, zero, suc, ◌≤◌, ◌==◌, true, false, List, [], ◌∷◌, ◌++◌, length, Option, None, Some, slice_get, refl, ap, subst, arith}
+use Rattle.std.specs.Prelude.{◌&&◌}
+use Rattle.std.specs.List.{flat_map, list_any}
 use Rattle.std.specs.Option.{option_map_or}
 use Rattle.std.proofs.lemmas.Bool.{eqb-true, eq-eqb}
 use Rattle.th_base.specs.declared.class.ClassInfo.{ClassInfo}
@@ -12,7 +12,6 @@ use Rattle.th_ir.specs.declared.facts.Facts.{Facts}
 use Rattle.th_ir.specs.declared.graph.Edge.{Edge}
 use Rattle.th_ir.specs.declared.graph.Edge.TheVariants.{Static, Field, Element}
 use Rattle.th_ir.specs.declared.program.RegProgram.{RegProgram}
-use Rattle.th_ir.specs.Fields.{is_file_static}
 use Rattle.th_ir.specs.FactSets.{set_at, sets_of, AscendBy, IsListedSet, cell_key, elem_key, AreListed}
 use Rattle.th_ir.specs.Graph.{HasEdge, edge_key, IsGraph}
 use Rattle.th_ir.specs.Program.{Among}

@@ -1,5 +1,5 @@
 -- What a value leads to in a covered state, the edges lead to.
-use Rattle.std.proofs.Common.{◌≡◌, ℕ, List, Option, Some, slice_get, refl, sym, ap, subst, ◌∙◌}
+use Rattle.std.proofs.Common.{◌≡◌, ℕ, List, Some, slice_get, refl, sym, ap, subst, ◌∙◌}
 use Rattle.th_base.specs.declared.class.ClassInfo.{ClassInfo}
 use Rattle.th_base.specs.declared.number.FieldId.{FieldId}
 use Rattle.th_base.specs.declared.number.SiteId.{SiteId}
@@ -12,7 +12,7 @@ use Rattle.th_ir.specs.Sites.{site_class}
 use Rattle.th_ir.specs.Machine.{RegValue, Address, RegObject, RegState, field_value, element_value}
 use Rattle.th_ir.specs.FactSets.{FactSets}
 use Rattle.th_ir.specs.Covered.{HasSite, Covers}
-use Rattle.th_ir.specs.Graph.{IsOfSite, IsThere, Realises, LeadsTo, begins, by_field as edge_by_field, by_element as edge_by_element, IsAlarm, AreAlarms}
+use Rattle.th_ir.specs.Graph.{IsOfSite, Realises, LeadsTo, begins, by_field as edge_by_field, by_element as edge_by_element, AreAlarms}
 use Rattle.th_ir.proofs.Plain.{some_is, same_found}
 use Rattle.th_graph.specs.Joined.{Leads, here, by_field, by_element, IsJoined}
 

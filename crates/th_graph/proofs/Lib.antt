@@ -5,6 +5,7 @@ pub mod FileStatics
 pub mod GraphEdges
 pub mod Leading
 pub mod Orders
+pub mod Producing
 pub mod Stores
 pub mod TargetRows
 pub mod Written

@@ -1,5 +1,5 @@
 -- What a statement writes into a place, or makes, by its effect.
-use Rattle.std.proofs.Common.{◌≡◌, inl, inr, ℕ, zero, suc, Bool, true, false, List, [], ◌∷◌, Option, None, Some, slice_get, refl, sym, ap, subst, ◌∙◌, if◌then◌else◌}
+use Rattle.std.proofs.Common.{◌≡◌, inl, inr, ℕ, zero, suc, Bool, true, false, List, None, Some, slice_get, refl, sym, subst, if◌then◌else◌}
 use Rattle.std.specs.Prelude.{replicate}
 use Rattle.th_base.specs.declared.class.ClassInfo.{ClassInfo}
 use Rattle.th_base.specs.declared.number.FieldId.{FieldId}
@@ -11,7 +11,7 @@ use Rattle.th_ir.specs.declared.stmt.CallKind.TheVariants.{Virtual, Special, Sta
 use Rattle.th_ir.specs.declared.stmt.Stmt.{Stmt}
 use Rattle.th_ir.specs.declared.stmt.Stmt.TheVariants.{Nop, Const, Null, Str, Copy, Arith, Neg, AddConst, Narrow, AnyInt, Assume, GetStatic, PutStatic, GetField, PutField, GetElem, PutElem, Length, New, NewArray, Cast, InstanceOf, Call, Init, Return, Pick, NonNull, Halt}
 use Rattle.th_ir.specs.Fields.{is_ref_field, class_has}
-use Rattle.th_ir.specs.Machine.{RegValue, IntValue, NullValue, Address, RegObject, RegState, PointsTo, field_value, element_value, first_value, new_field, new_object}
+use Rattle.th_ir.specs.Machine.{RegValue, Address, RegObject, RegState, PointsTo, field_value, element_value, first_value, new_object}
 use Rattle.th_ir.specs.Effects.{ReadsElement, HasElement, is_storable, new_element, new_array, Change, Sets, SetsStatic, SetsField, SetsElement, Makes, Enters, Leaves, Effect}
 use Rattle.th_ir.proofs.Plain.{some_is}
 

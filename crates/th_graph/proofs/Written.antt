@@ -1,6 +1,6 @@
 -- A step writes one place at most: an edge that a state realises was realised before the step, or the
 -- step stores it.
-use Rattle.std.proofs.Common.{◌≡◌, ℕ, zero, suc, ◌+◌, ◌==◌, ◌⊎◌, inl, inr, Bool, true, false, List, [], ◌∷◌, ◌++◌, Option, None, Some, slice_get, refl, sym, ap, subst, ◌∙◌, if◌then◌else◌}
+use Rattle.std.proofs.Common.{◌≡◌, ℕ, zero, suc, ◌==◌, ◌⊎◌, inl, inr, Bool, true, false, List, [], ◌∷◌, ◌++◌, Option, Some, slice_get, refl, sym, ap, subst, ◌∙◌, if◌then◌else◌}
 use Rattle.std.specs.Prelude.{slice_set}
 use Rattle.std.specs.Option.{option_map, option_map_or}
 use Rattle.std.specs.List.{AllByRecursion}
@@ -11,15 +11,15 @@ use Rattle.th_base.specs.declared.number.NodeId.{NodeId}
 use Rattle.th_base.specs.declared.number.SiteId.{SiteId}
 use Rattle.th_ir.specs.declared.graph.Edge.{Edge}
 use Rattle.th_ir.specs.declared.graph.Edge.TheVariants.{Static, Field, Element}
-use Rattle.th_ir.specs.declared.graph.Producer.TheVariants.{Node as StoreAt, Constant}
+use Rattle.th_ir.specs.declared.graph.Producer.TheVariants.{Node as StoreAt}
 use Rattle.th_ir.specs.declared.program.RegProgram.{RegProgram}
 use Rattle.th_ir.specs.declared.program.Node.{Node}
 use Rattle.th_ir.specs.declared.stmt.Stmt.{Stmt}
-use Rattle.th_ir.specs.declared.stmt.Stmt.TheVariants.{PutStatic, PutField, PutElem, Call, Init}
-use Rattle.th_ir.specs.Program.{Among, node_at}
+use Rattle.th_ir.specs.declared.stmt.Stmt.TheVariants.{Call, Init}
+use Rattle.th_ir.specs.Program.{node_at}
 use Rattle.th_ir.specs.Fields.{has_field}
 use Rattle.th_ir.specs.Sites.{is_ref_elem, is_ref_array, can_store}
-use Rattle.th_ir.specs.Machine.{RegValue, Address, Contents, Instance, Array, RegObject, RegFrame, RegState, PointsTo, field_value, element_value, with_field, with_element, changed_at, static_written}
+use Rattle.th_ir.specs.Machine.{RegValue, Address, Contents, Instance, Array, RegObject, RegFrame, RegState, PointsTo, field_value, element_value, with_field, with_element, changed_at}
 use Rattle.th_ir.specs.Effects.{is_storable, Change, Sets, SetsStatic, SetsField, SetsElement, Makes, Enters, Leaves}
 use Rattle.th_ir.specs.Step.{Resumes, Returns, Happens, StepFrom}
 use Rattle.th_ir.specs.FactSets.{FactSets}
@@ -27,7 +27,7 @@ use Rattle.th_ir.specs.Covered.{HasSite, Covers}
 use Rattle.th_ir.specs.Good.{IsFrame, IsGood}
 use Rattle.th_ir.specs.Graph.{IsOfSite, IsThere, Realises, StoreGives, Produces}
 use Rattle.th_ir.proofs.Plain.{some_is, same_found}
-use Rattle.th_ir.proofs.Heaps.{IsExtended, same_heap, grown, grown_cases, changed, changed_cases, with_contents}
+use Rattle.th_ir.proofs.Heaps.{IsExtended, same_heap, grown, grown_cases, changed, changed_cases}
 use Rattle.th_ir.proofs.Changes.{node_within}
 use Rattle.th_graph.specs.Produced.{HoldsSites, StandsToStore}
 use Rattle.th_graph.proofs.Stores.{StoresStatic, StoresField, StoresElement, HoldsNothing, Stored, stored}

@@ -8,7 +8,7 @@ use Rattle.th_ir.specs.declared.graph.Producer.TheVariants.{Node as StoreAt, Con
 use Rattle.th_ir.specs.declared.program.RegProgram.{RegProgram}
 use Rattle.th_ir.specs.declared.program.Node.{Node}
 use Rattle.th_ir.specs.declared.stmt.Stmt.{Stmt}
-use Rattle.th_ir.specs.declared.stmt.Stmt.TheVariants.{Nop, PutStatic, PutField, PutElem}
+use Rattle.th_ir.specs.declared.stmt.Stmt.TheVariants.{PutStatic, PutField, PutElem}
 use Rattle.th_ir.specs.Program.{node_at}
 use Rattle.th_ir.specs.Machine.{RegFrame, RegState, initial_state}
 use Rattle.th_ir.specs.FactSets.{FactSets}

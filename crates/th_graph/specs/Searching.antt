@@ -1,5 +1,5 @@
 -- Private to the crate: what the search for alarms keeps.
-use Rattle.std.specs.Prelude.{ℕ, ◌≡◌, ◌==◌, ◌↔◌, ◌+◌, ◌<◌, ◌⊎◌, nat_lt, Bool, true, false, List, [], ◌∷◌, ◌++◌, length, map, Option, None, Some, slice_get, is_some, if◌then◌else◌}
+use Rattle.std.specs.Prelude.{ℕ, ◌≡◌, ◌==◌, ◌↔◌, ◌<◌, ◌⊎◌, nat_lt, Bool, true, false, List, [], ◌∷◌, ◌++◌, length, Option, None, Some, slice_get, is_some, if◌then◌else◌}
 use Rattle.std.specs.List.{slice_index_or}
 use Rattle.std.specs.Option.{option_map_or}
 use Rattle.th_base.specs.declared.class.ClassInfo.{ClassInfo}
@@ -14,7 +14,6 @@ use Rattle.th_ir.specs.declared.graph.Edge.{Edge}
 use Rattle.th_ir.specs.declared.graph.Edge.TheVariants.{Static, Field, Element}
 use Rattle.th_ir.specs.declared.program.RegProgram.{RegProgram}
 use Rattle.th_ir.specs.declared.program.Site.{Site}
-use Rattle.th_ir.specs.Fields.{is_ref_field}
 use Rattle.th_ir.specs.FactSets.{AscendBy}
 use Rattle.th_ir.specs.Graph.{alarm_key, IsAlarm, AreAlarms}
 use Rattle.th_ir.specs.Program.{Among}

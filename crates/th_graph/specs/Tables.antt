@@ -1,25 +1,14 @@
 -- Private to the crate: what its functions make, as lists.
-use Rattle.std.specs.Prelude.{ℕ, ◌≡◌, ◌==◌, ◌+◌, ◌-◌, nat_le, Bool, true, false, List, [], ◌∷◌, ◌++◌, length, map, filter, flat_map, Option, None, Some, slice_get, is_some, if◌then◌else◌}
-use Rattle.std.specs.List.{slice_index_or}
+use Rattle.std.specs.Prelude.{ℕ, ◌+◌, ◌-◌, nat_le, List, [], ◌∷◌, ◌++◌, map, filter, flat_map, Option, None, Some, slice_get, if◌then◌else◌}
 use Rattle.std.specs.Option.{option_map_or}
 use Rattle.th_base.specs.declared.built_in.TheConstants.{BUILT_IN_COUNT}
 use Rattle.th_base.specs.declared.class.ClassInfo.{ClassInfo}
 use Rattle.th_base.specs.declared.class.FieldInfo.{FieldInfo}
-use Rattle.th_base.specs.declared.number.ClassId.{ClassId}
-use Rattle.th_base.specs.declared.number.EdgeId.{EdgeId}
 use Rattle.th_base.specs.declared.number.FieldId.{FieldId}
 use Rattle.th_base.specs.declared.number.SiteId.{SiteId}
-use Rattle.th_base.specs.IdSet.{has, IsAscending}
-use Rattle.th_base.specs.Launchable.{is_activity}
-use Rattle.th_base.specs.Subtype.{class_named}
 use Rattle.th_ir.specs.declared.facts.Facts.{Facts}
-use Rattle.th_ir.specs.declared.graph.Alarm.{Alarm}
 use Rattle.th_ir.specs.declared.graph.Edge.{Edge}
 use Rattle.th_ir.specs.declared.graph.Edge.TheVariants.{Static, Field, Element}
-use Rattle.th_ir.specs.declared.program.RegProgram.{RegProgram}
-use Rattle.th_ir.specs.declared.program.Site.{Site}
-use Rattle.th_ir.specs.Sites.{is_array_text, site_class}
-use Rattle.th_ir.specs.WellFormed.{places_from}
 
 -- ---- static fields of the classes of files
 

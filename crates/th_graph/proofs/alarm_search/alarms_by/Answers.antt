@@ -1,4 +1,4 @@
-use Rattle.std.proofs.Common.{◌≡◌, ℕ, List, [], inl, length, sym, ap, subst, ◌∙◌}
+use Rattle.std.proofs.Common.{◌≡◌, List, [], inl, sym, ap, subst, ◌∙◌}
 use Rattle.th_base.specs.declared.class.ClassInfo.{ClassInfo}
 use Rattle.th_base.specs.declared.number.FieldId.{FieldId}
 use Rattle.th_ir.specs.declared.graph.Alarm.{Alarm}

@@ -1,4 +1,4 @@
-use Rattle.std.proofs.Common.{◌≡◌, ◌++◌, take, map, length}
+use Rattle.std.proofs.Common.{◌≡◌, ◌++◌, take}
 use Rattle.std.specs.List.{flat_map}
 use Rattle.th_graph.specs.Tables.{edges_of_elem}
 use Rattle.th_graph.proofs.edges.add_elems.Given as goal

@@ -1,4 +1,4 @@
-use Rattle.std.proofs.Common.{◌≡◌, List, sym, ap, ◌∙◌, ◌++◌}
+use Rattle.std.proofs.Common.{List, sym, ap, ◌∙◌, ◌++◌}
 use Rattle.std.proofs.lemmas.List.{append-nil}
 use Rattle.th_ir.specs.declared.graph.Edge.{Edge}
 use Rattle.th_graph.proofs.GraphEdges.{nothing_past}

@@ -1,5 +1,4 @@
-use Rattle.std.proofs.Common.{◌≡◌, ◌++◌, take, map, length}
-use Rattle.std.specs.List.{flat_map}
+use Rattle.std.proofs.Common.{◌≡◌, ◌++◌, take}
 use Rattle.th_graph.specs.Tables.{static_edges}
 use Rattle.th_graph.proofs.edges.add_statics.Given as goal
 

@@ -1,4 +1,4 @@
-use Rattle.std.proofs.Common.{◌≡◌, ◌++◌, take, map, length}
+use Rattle.std.proofs.Common.{◌≡◌, take, length}
 use Rattle.std.specs.List.{flat_map}
 use Rattle.th_graph.specs.Tables.{edges_of_elem, left_after}
 use Rattle.th_graph.proofs.edges.after_elems.Given as goal

@@ -1,5 +1,4 @@
-use Rattle.std.proofs.Common.{◌≡◌, ◌++◌, take, map, length}
-use Rattle.std.specs.List.{flat_map}
+use Rattle.std.proofs.Common.{◌≡◌, take, length}
 use Rattle.th_graph.specs.Tables.{static_edges, left_after}
 use Rattle.th_graph.proofs.edges.after_statics.Given as goal
 

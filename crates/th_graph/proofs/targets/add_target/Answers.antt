@@ -1,4 +1,4 @@
-use Rattle.std.proofs.Common.{◌≡◌, ◌<◌, ℕ, List, map, length, true, sym, ap, subst, arith, ◌∙◌}
+use Rattle.std.proofs.Common.{◌≡◌, ◌<◌, ℕ, List, map, length, true, sym, subst, arith, ◌∙◌}
 use Rattle.th_base.specs.IdSet.{IsAscending}
 use Rattle.th_base.specs.Launchable.{is_activity}
 use Rattle.th_graph.specs.Searching.{row_of, class_of_site}

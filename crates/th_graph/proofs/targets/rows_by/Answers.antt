@@ -1,7 +1,7 @@
-use Rattle.std.proofs.Common.{◌≡◌, ◌∙◌, ◌++◌, ◌∷◌, ◌+◌, ℕ, List, Option, None, [], length, take, get_or, replicate, sym, ap, arith, if◌then◌else◌}
+use Rattle.std.proofs.Common.{◌∙◌, ◌++◌, ◌∷◌, ℕ, List, Option, None, [], length, get_or, sym, ap, arith, if◌then◌else◌}
 use Rattle.std.proofs.lemmas.List.{length-replicate}
 use Rattle.th_flow.proofs.Rows.{places_more}
-use Rattle.th_graph.specs.Searching.{is_key, row_at, row_of}
+use Rattle.th_graph.specs.Searching.{is_key, row_at}
 use Rattle.th_graph.proofs.TargetRows.{row_of_none}
 use Rattle.th_graph.proofs.targets.rows_by.Goals as goal
 
