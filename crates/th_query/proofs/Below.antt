@@ -1,7 +1,9 @@
 -- All numbers below a bound, and membership in them.
-use Rattle.std.proofs.Common.{◌≡◌, ℕ, ◌+◌, ◌-◌, ◌<◌, ◌≤◌, zero, suc, take, drop, subst, false, ltb, eqb, List, [], ◌∷◌, ◌++◌, length, get_or, refl, sym, ap, ◌∙◌, inl, inr, arith}
+use Rattle.std.proofs.Common.{Bool, true, false, ◌≡◌, ℕ, ◌+◌, ◌-◌, ◌<◌, ◌≤◌, zero, suc, take, drop, subst, ltb, eqb, List, [], ◌∷◌, ◌++◌, length, get_or, refl, sym, ap, ◌∙◌, inl, inr, arith}
 use Rattle.std.specs.Prelude.{◌||◌}
-use Rattle.std.proofs.lemmas.Bool.{cases_order, cases_lt, lt-ltb, le-ltb, eq-eqb, ne_eqb}
+use Rattle.std.proofs.lemmas.Bool.{cases_order, cases_lt, lt-ltb, le-ltb, eq-eqb, ne_eqb, and_right, and_from}
+use Rattle.std.specs.Prelude.{◌&&◌}
+use Rattle.std.specs.List.{list_all}
 use Rattle.std.proofs.lemmas.List.{length-append, get_or_append_left, get_or-append_right, get_or-drop, get_or_past, length-drop, take_all, append_cancel_left}
 use Rattle.std.proofs.Math.Seq.{get_or-append_seam}
 use Rattle.th_base.specs.IdSet.{has}
@@ -61,3 +63,26 @@ continued low high next ids rest is e =
       (λ f. here ∙ ap (λ xs. upto high ++ xs) (sym (rest_is ids (high - low)) ∙ f)),
       (λ f. rest_is ids (high - low) ∙ append_cancel_left (upto high) (drop (high - low) ids) rest (sym here ∙ f)),
     )
+
+-- ---- tests of all numbers below a bound
+
+pub all_append : (p : ℕ → Bool) (xs ys : List ℕ) → list_all p (xs ++ ys) ≡ (list_all p xs && list_all p ys)
+all_append p [] ys = refl
+all_append p (x ∷ xs) ys = ap (λ b. p x && b) (all_append p xs ys) ∙ sym (and_more (p x) (list_all p xs) (list_all p ys))
+  where
+    and_more : (a b c : Bool) → ((a && b) && c) ≡ (a && (b && c))
+    and_more true b c = refl
+    and_more false b c = refl
+
+-- one that fails is one of them
+pub fails_below : (p : ℕ → Bool) (i n : ℕ) → i < n → p i ≡ false → list_all p (upto n) ≡ false
+fails_below p i zero h e = absurd (omega (arith, h))
+fails_below p i (suc n) h e = elim (cases_lt i n) [
+  | inl less ↦ all_append p (upto n) (n ∷ []) ∙ ap (λ b. b && list_all p (n ∷ [])) (fails_below p i n less e)
+  | inr last ↦ let same : n ≡ i = omega (arith, h, last) in all_append p (upto n) (n ∷ []) ∙ and_right (list_all p (upto n)) _ (ap (λ b. b && true) (ap p same ∙ e))
+]
+
+pub passes_more : (p : ℕ → Bool) (n : ℕ) → list_all p (upto n) ≡ true → p n ≡ true → list_all p (upto (n + 1)) ≡ true
+passes_more p n h e =
+    let one : n + 1 ≡ suc n = omega arith in
+    ap (λ k. list_all p (upto k)) one ∙ all_append p (upto n) (n ∷ []) ∙ and_from _ _ h (and_from _ _ e refl)

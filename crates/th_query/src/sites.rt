@@ -1,5 +1,6 @@
 // From-sets: every site below a bound, and more above it.
-ghost use Rattle.std.specs.Prelude.{◌≡◌, ◌↔◌, ◌≤◌, IfOk, IsTrue, [], ◌++◌};
+ghost use Rattle.std.specs.Prelude.{◌≡◌, ◌↔◌, ◌≤◌, IfOk, IsTrue, [], ◌++◌, not};
+ghost use Rattle.std.specs.List.{list_all};
 ghost use Rattle.th_base.specs.IdSet.{has};
 ghost use Rattle.th_query.specs.FromSets.{upto};
 
@@ -56,6 +57,20 @@ impl Sites {
         site < self.below || self.more.contains(site)
     }
 
+    /// Whether each member is a member of the other set.
+    pub fn is_subset(&self, other: &Sites) -> bool
+        ensures { result ≡ list_all (has other.now) self.now }
+    {
+        all_below_in(self.below, other) && all_in(self.more.ids(), other)
+    }
+
+    /// Whether the sets have no member in common.
+    pub fn is_disjoint(&self, other: &Sites) -> bool
+        ensures { result ≡ list_all (λ a. not (has other.now a)) self.now }
+    {
+        none_below_in(self.below, other) && none_in(self.more.ids(), other)
+    }
+
     /// Whether there are no members.
     pub fn is_empty(&self) -> bool
         ensures { IsTrue result ↔ (self.now ≡ []) }
@@ -81,6 +96,44 @@ impl Same for Sites {
             continues(other.more.ids(), other.below, self.below, self.more.ids())
         }
     }
+}
+
+// Whether each site below a bound is in the set.
+fn all_below_in(below: u32, set: &Sites) -> bool
+    ensures { result ≡ list_all (has set.now) (upto below) }
+{
+    for site in 0..below {
+        if !set.contains(site) {
+            return false;
+        }
+    }
+    true
+}
+
+// Whether each of these is in the set.
+fn all_in(sites: &[u32], set: &Sites) -> bool
+    ensures { result ≡ list_all (has set.now) sites.now }
+{
+    sites.iter().all(|site| set.contains(*site))
+}
+
+// Whether no site below a bound is in the set.
+fn none_below_in(below: u32, set: &Sites) -> bool
+    ensures { result ≡ list_all (λ a. not (has set.now a)) (upto below) }
+{
+    for site in 0..below {
+        if set.contains(site) {
+            return false;
+        }
+    }
+    true
+}
+
+// Whether none of these is in the set.
+fn none_in(sites: &[u32], set: &Sites) -> bool
+    ensures { result ≡ list_all (λ a. not (has set.now a)) sites.now }
+{
+    sites.iter().all(|site| !set.contains(*site))
 }
 
 // Whether all below `low` and then these are all below `high` and then the rest.
