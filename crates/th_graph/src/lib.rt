@@ -20,6 +20,3 @@ mod targets;
 pub use alarm_search::{alarms, alarms_pass};
 pub use edges::{edges_pass, heap_graph};
 pub use store_index::{StoreIndex, producers};
-
-#[cfg(test)]
-mod tests;

@@ -28,6 +28,3 @@ mod uses;
 
 pub use linkable::{MOST_FILES, MOST_MEMBERS, can_link};
 pub use linker::link;
-
-#[cfg(test)]
-mod tests;

@@ -11,9 +11,13 @@ mod codes;
 #[cfg(test)]
 mod files;
 #[cfg(test)]
+mod linking;
+#[cfg(test)]
 mod pools;
 #[cfg(test)]
 mod reached_code;
+#[cfg(test)]
+mod resolved_code;
 #[cfg(test)]
 mod runs;
 #[cfg(test)]

@@ -16,6 +16,8 @@ mod edge_tables;
 #[cfg(test)]
 mod flows;
 #[cfg(test)]
+mod heap_graphs;
+#[cfg(test)]
 mod hierarchies;
 #[cfg(test)]
 mod host;

@@ -1,12 +1,12 @@
 ghost use Rattle.std.specs.Prelude.{◌<◌, ◌^◌, ◌≡◌, length, IfOk};
 
-use crate::{StoreIndex, alarms, alarms_pass, edges_pass, heap_graph, producers};
 use std::alloc::Global;
 use std::test::Fail;
 use th_base::{
     ACTIVITY_NUMBER, ClassId, ClassInfo, EdgeId, FieldId, FieldInfo, Hierarchy, IdSet, MethodId,
     NodeId, Reg, Seq, SiteId, Text, acyclic,
 };
+use th_graph::{StoreIndex, alarms, alarms_pass, edges_pass, heap_graph, producers};
 use th_ir::{Edge, Facts, Graph, Node, Place, Plan, Producer, RegProgram, Site, Stmt};
 
 // A class of twelve: the eleven built-in ones stand first, and extend nothing here but the Activity.

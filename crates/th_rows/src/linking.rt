@@ -1,8 +1,8 @@
 // Class files and what linking them gives, as it was worked out by hand.
-use crate::{can_link, link};
 use std::alloc::Global;
 use std::test::Fail;
 use th_base::{Seq, Text};
+use th_linker::{can_link, link};
 use th_syntax::{ClassFile, Code, Instr, Member, MemberRef, Program, Refusal};
 
 // Each case is some lines that make classes, and one that says what they give.
