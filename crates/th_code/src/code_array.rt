@@ -6,8 +6,8 @@ ghost use Rattle.th_pool.specs.Gives.{IfRefused};
 ghost use Rattle.th_code.specs.Decoded.{IsRead, IsStopped, placed_fail};
 ghost use Rattle.th_code.specs.Starts.{is_marked};
 
+use crate::by_opcode::instruction;
 use crate::flow::first_stray;
-use crate::instruction::instruction;
 use std::alloc::{AllocError, Global};
 use th_base::{Fail, Seq};
 use th_pool::{Place, Pool};

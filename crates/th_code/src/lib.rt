@@ -10,12 +10,12 @@
 mod access;
 mod bare;
 mod branch;
+mod by_opcode;
 mod code_array;
 mod constant;
 mod control;
 mod family;
 mod flow;
-mod instruction;
 mod member;
 mod object;
 mod operand;
@@ -23,6 +23,6 @@ mod plain;
 mod switch;
 mod wide;
 
+pub use by_opcode::instruction;
 pub use code_array::decode;
-pub use instruction::instruction;
 pub use operand::Taken;
