@@ -33,7 +33,8 @@ is_no_difference q d = (d.0 == d.1) || (is_only_null (symbol_at q d.0) && is_onl
 -- the range of a number
 abbrev pub ranges_at : ℕ → Sym → List Range → List Range
 ranges_at s (Ref null sites) rest = rest
-ranges_at s Int rest = record { variable = s; low = negsuc 2147483647; high = pos 2147483647; small_low = lit< tt; small_high = lit< tt } ∷ rest
+ranges_at s Int rest =
+    record { variable = s; low = negsuc 2147483647; high = pos 2147483647; small_low = lit< tt; small_high = lit< tt } ∷ rest
 ranges_at s Carry rest = record { variable = s; low = negsuc 0; high = pos 1; small_low = lit< tt; small_high = lit< tt } ∷ rest
 
 -- the ranges of all numbers, from the symbol s on

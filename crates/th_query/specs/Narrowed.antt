@@ -36,7 +36,8 @@ pub record MeetsRules (h : List ClassInfo) (p : RegProgram) (t : FactSets) (q : 
   -- base's sites
   pub registers : (f : Frame) (x : Reg × ℕ) (a : ℕ) → Among q.frames f → Among f.regs x → sets x.1 a ≡ true → t.reg x.0.0 a ≡ true
   pub statics : (x : FieldId × ℕ) (a : ℕ) → Among q.statics x → sets x.1 a ≡ true → t.static x.0.0 a ≡ true
-  pub values : (k : Link) (b : ℕ) → Among (links q) k → sets k.value b ≡ true → (a : ℕ) × (sets k.base a ≡ true) × (slot_has t a k.slot b ≡ true)
+  pub values : (k : Link) (b : ℕ) → Among (links q) k → sets k.value b ≡ true
+      → (a : ℕ) × (sets k.base a ≡ true) × (slot_has t a k.slot b ≡ true)
   -- a base has only sites that have the slot and, where the value is a reference that can't be null,
   -- may hold one of the value's sites there
   pub owners : (k : Link) (a : ℕ) → Among (links q) k → sets k.base a ≡ true → has_slot h p a k.slot ≡ true

@@ -29,7 +29,8 @@ same_kind _ _ = false
 -- the symbol s of r, matched with this so far, is matched with t of q: newly where both are of one kind
 abbrev pub matched_by : Query → Query → ℕ → ℕ → List (Option ℕ) → Option (Option ℕ) → Option (List (Option ℕ))
 matched_by q r s t m None = None
-matched_by q r s t m (Some None) = if same_kind (symbol_at q t) (symbol_at r s) then Some (slice_set m s (Some t)) else None
+matched_by q r s t m (Some None) =
+    if same_kind (symbol_at q t) (symbol_at r s) then Some (slice_set m s (Some t)) else None
 matched_by q r s t m (Some (Some u)) = if u == t then Some m else None
 
 abbrev pub matched : Query → Query → ℕ × ℕ → List (Option ℕ) → Option (List (Option ℕ))
@@ -47,7 +48,8 @@ matched_all q r pairs m = matched_in_turn (matched q r) pairs m
 
 -- a register fact of r is matched with the fact of q that has its register
 abbrev pub matched_register : Query → Query → List (Reg × ℕ) → Reg × ℕ → List (Option ℕ) → Option (List (Option ℕ))
-matched_register q r facts x m = option_and_then (λ y. matched q r (x.1, y) m) (first_some (λ y. if y.0.0 == x.0.0 then Some y.1 else None) facts)
+matched_register q r facts x m =
+    option_and_then (λ y. matched q r (x.1, y) m) (first_some (λ y. if y.0.0 == x.0.0 then Some y.1 else None) facts)
 
 abbrev pub matched_frames : Query → Query → List Frame → List Frame → List (Option ℕ) → Option (List (Option ℕ))
 matched_frames q r [] [] m = Some m
@@ -60,7 +62,8 @@ matched_frames q r (f ∷ fs) (g ∷ gs) m =
 
 -- a fact of a static field of r with the fact of q that has its field
 abbrev pub matched_static : Query → Query → FieldId × ℕ → List (Option ℕ) → Option (List (Option ℕ))
-matched_static q r x m = option_and_then (λ y. matched q r (x.1, y) m) (first_some (λ y. if y.0.0 == x.0.0 then Some y.1 else None) q.statics)
+matched_static q r x m =
+    option_and_then (λ y. matched q r (x.1, y) m) (first_some (λ y. if y.0.0 == x.0.0 then Some y.1 else None) q.statics)
 
 -- a cell with the first of the same field that agrees with the matching so far
 abbrev pub matched_cell : Query → Query → Cell → List (Option ℕ) → Option (List (Option ℕ))

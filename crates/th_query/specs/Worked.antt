@@ -135,7 +135,8 @@ with_difference x y d = record (idle (x ∷ y ∷ [])) { statics = static 0 0 �
 
 -- a number that is at least 5 and at most the given one
 abbrev pub between : Sym → ℤ → Query
-between x most = record (idle (x ∷ [])) { facts = fact ((0, negsuc 0) ∷ []) (pos 5) Le ∷ fact ((0, pos 1) ∷ []) most Le ∷ [] }
+between x most =
+    record (idle (x ∷ [])) { facts = fact ((0, negsuc 0) ∷ []) (pos 5) Le ∷ fact ((0, pos 1) ∷ []) most Le ∷ [] }
 
 -- ---- subsumption
 
