@@ -1,5 +1,5 @@
 // The form of scripts, and the handlers.
-use crate::{check_form, handlers};
+use crate::{ScriptError, check_form, handlers};
 use std::test::Fail;
 
 // A line before each script: the number of its first bad line, or none.
@@ -25,4 +25,13 @@ fn handlers_are_eight(rt: HostRuntime) {
     let all = handlers();
     assert_eq!(rt; all[0], ("onCreate", "(Landroid/os/Bundle;)V"));
     assert_eq!(rt; all[6], ("onDestroy", "()V"));
+}
+
+#[test]
+fn faults_are_told(rt: HostRuntime) -> Result<(), Fail> {
+    let line = format!(in rt.alloc(); "{}", ScriptError::Line(3))?;
+    assert_eq!(rt; line.as_str(), "script line 3");
+    let event = format!(in rt.alloc(); "{}", ScriptError::Event(12))?;
+    assert_eq!(rt; event.as_str(), "script event 12");
+    Ok(())
 }
