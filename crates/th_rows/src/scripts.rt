@@ -1,4 +1,8 @@
 // The form of scripts, and the handlers.
+<<<<<<< HEAD:crates/th_rows/src/scripts.rt
+=======
+use crate::{ScriptError, check_form, handlers};
+>>>>>>> a1b86016e6592af02c351a43288dd17df1fefd80:crates/th_harness/src/tests.rt
 use std::test::Fail;
 use th_harness::{check_form, handlers};
 
@@ -25,4 +29,13 @@ fn handlers_are_eight(rt: HostRuntime) {
     let all = handlers();
     assert_eq!(rt; all[0], ("onCreate", "(Landroid/os/Bundle;)V"));
     assert_eq!(rt; all[6], ("onDestroy", "()V"));
+}
+
+#[test]
+fn faults_are_told(rt: HostRuntime) -> Result<(), Fail> {
+    let line = format!(in rt.alloc(); "{}", ScriptError::Line(3))?;
+    assert_eq!(rt; line.as_str(), "script line 3");
+    let event = format!(in rt.alloc(); "{}", ScriptError::Event(12))?;
+    assert_eq!(rt; event.as_str(), "script event 12");
+    Ok(())
 }
