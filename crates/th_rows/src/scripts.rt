@@ -1,10 +1,6 @@
 // The form of scripts, and the handlers.
-<<<<<<< HEAD:crates/th_rows/src/scripts.rt
-=======
-use crate::{ScriptError, check_form, handlers};
->>>>>>> a1b86016e6592af02c351a43288dd17df1fefd80:crates/th_harness/src/tests.rt
 use std::test::Fail;
-use th_harness::{check_form, handlers};
+use th_harness::{ScriptError, check_form, handlers};
 
 // A line before each script: the number of its first bad line, or none.
 #[test]
