@@ -16,3 +16,4 @@ pub mod Steps
 pub mod Results
 pub mod ClassFlows
 pub mod Conflicts
+pub mod Flows

@@ -13,6 +13,7 @@ mod behind;
 mod conflict;
 mod entry;
 mod first;
+mod flowing;
 mod inference;
 mod kept;
 pub mod laws;
@@ -25,5 +26,6 @@ mod state;
 mod table;
 mod walk;
 
+pub use flowing::flows_well;
 pub use inference::{KIND_CONFLICT, infer};
 pub use table::{Kinds, KindsRow, KindsWalk};

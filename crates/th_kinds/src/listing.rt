@@ -35,7 +35,7 @@ pub(crate) fn row_at<'c>(code: &'c Listing, place: usize) -> &'c Row
 }
 
 // The offsets of instructions.
-fn offsets_of(alloc: Global, instrs: &[(u32, Instr)]) -> Result<Vec<u32>, AllocError>
+pub(crate) fn offsets_of(alloc: Global, instrs: &[(u32, Instr)]) -> Result<Vec<u32>, AllocError>
     ensures { IfOk result (λ offsets. offsets.items ≡ map (λ i. i.0) instrs.now) }
 {
     let mut offsets = Vec::new(alloc);
