@@ -1,7 +1,7 @@
 use Rattle.std.proofs.Common.{sym, subst}
 use Rattle.th_incl.specs.Least.{IsInRange}
 use Rattle.th_incl.proofs.Added.{base_range}
-use Rattle.th_incl.proofs.tests.add_base.Goals as goal
+use Rattle.th_unit_tests.proofs.inclusions.add_base.Goals as goal
 
 pub returns-clause-range : goal.returns-clause-range
 returns-clause-range c =
