@@ -1,0 +1,17 @@
+pub mod ClassNames
+pub mod ClassSpelled
+pub mod Closed
+pub mod CodeSpelled
+pub mod Entries
+pub mod Fitting
+pub mod FlowSpelled
+pub mod GeneratedPasses
+pub mod InstrSpelled
+pub mod Instructions
+pub mod Members
+pub mod Operands
+pub mod PoolSpelled
+pub mod SameItems
+pub mod Spells
+pub mod Switches
+pub mod Targets
