@@ -25,7 +25,7 @@ use Rattle.th_syntax.specs.Flags.{is_static}
 use Rattle.th_syntax.specs.Flow.{IsReached, start, onward, leads_to, instr_in, offset_after, successors_of}
 use Rattle.th_syntax.specs.KindRows.{row_of, result_slots, slots_taken, slots_given, locals_after, stack_after}
 use Rattle.th_syntax.specs.KindTable.{argument_slots}
-use Rattle.th_syntax.specs.Facts.{IsReachedIn, IsReachedInstr}
+use Rattle.th_syntax.specs.Facts.{IsReachedIn, IsReachedInstr, EveryPathStands}
 use Rattle.th_syntax.specs.Machine.{method_id, with_frames, ended_state}
 use Rattle.th_syntax.specs.Slots.{locals_with}
 use Rattle.th_syntax.specs.Program.{Owned, all_classes, fields_of, methods_of, code_of, instr_at, next_offset}
@@ -92,6 +92,12 @@ leads_behind code i offset next falls e =
 pub reached_stands : (code : Code) {offset : ℕ} → IsClosed code.instrs → IsReached code.instrs offset → (i : Instr) × (instr_in code.instrs offset ≡ Some i)
 reached_stands code closed start = closed.begins
 reached_stands code closed (onward {offset} {to} {i} before at leads) = closed.leads offset to i at leads
+
+-- wherever a path leads an instruction of the method stands
+pub paths_stand : (files : List ClassFile) → IsSound files → EveryPathStands files
+paths_stand files sound = λ method offset path.
+    let i = reached_stands path.code (sound.closed method path.code path.is_code) path.reached in
+    (i.0, ap (option_and_then (λ (code : Code). instr_in code.instrs offset)) path.is_code ∙ i.1)
 
 -- ---- methods
 

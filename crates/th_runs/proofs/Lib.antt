@@ -15,6 +15,7 @@ pub mod Tables
 pub mod AllLocals
 pub mod Going
 pub mod Running
+pub mod Ending
 pub mod Spelt
 pub mod Closing
 pub mod Valued
@@ -22,3 +23,4 @@ pub mod Members
 pub mod Texts
 pub mod Sounding
 pub mod WorkedActivity
+pub mod WorkedRows

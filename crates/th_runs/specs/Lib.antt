@@ -6,3 +6,4 @@ pub mod Sound
 pub mod Verified
 pub mod Always
 pub mod Worked
+pub mod WorkedRows

@@ -1,6 +1,6 @@
 // What every run of the machine keeps, under both lifecycles.
 ghost use Rattle.std.specs.List.{AllByRecursion};
-ghost use Rattle.std.specs.Prelude.{◌≡◌, List, Some, [], false, length, ℕ};
+ghost use Rattle.std.specs.Prelude.{◌≡◌, List, Some, [], false, length, true, ℕ};
 ghost use Rattle.th_base.specs.declared.lifecycle.Lifecycle.{Lifecycle};
 ghost use Rattle.th_runs.specs.Addresses.{HasObjects};
 ghost use Rattle.th_runs.specs.Always.{IsAlways};
@@ -11,7 +11,7 @@ ghost use Rattle.th_runs.specs.Verified.{IsVerified};
 ghost use Rattle.th_syntax.specs.KindTable.{HasKinds};
 ghost use Rattle.th_syntax.specs.Kinds.{KindsAt, OfKinds};
 ghost use Rattle.th_syntax.specs.Linking.{IsLinked};
-ghost use Rattle.th_syntax.specs.Run.{IsReachable};
+ghost use Rattle.th_syntax.specs.Run.{Follows, IsReachable};
 ghost use Rattle.th_syntax.specs.Step.{step};
 ghost use Rattle.th_syntax.specs.declared.class_file.ClassFile.{ClassFile};
 ghost use Rattle.th_syntax.specs.declared.class_file.Code.{Code};
@@ -20,6 +20,13 @@ ghost use Rattle.th_syntax.specs.declared.kind.SlotKind.{SlotKind};
 ghost use Rattle.th_syntax.specs.declared.machine.State.{State};
 
 pub mod worked;
+
+/// No step and no event follows an ended state; and the step or event that ends a run changes nothing else.
+pub fn runs_end_once()
+    ensures last { (lifecycle : Lifecycle) (files : List ClassFile) (s t : State) → Follows lifecycle files s t → s.ended ≡ false }
+    ensures alone { (lifecycle : Lifecycle) (files : List ClassFile) (s t : State) → Follows lifecycle files s t → t.ended ≡ true
+        → t ≡ record s { ended = true } }
+{}
 
 /// Where a reachable state of any program holds an address, an object stands there.
 pub fn addresses_lead_to_objects()
@@ -76,6 +83,8 @@ pub fn verified_runs_keep()
     running_classes_are_touched();
     runs_keep_to_kinds();
     th_syntax::laws::kept();
+    th_syntax::laws::code_frames_stand();
+    th_syntax::laws::objects_keep_their_types();
 }
 
 /// A reachable state of such a program with a frame, whose run hasn't ended, has a step.

@@ -1,8 +1,11 @@
 // Small states, programs and slots, and what the definitions say of them.
 ghost use Rattle.std.specs.List.{AllByRecursion};
-ghost use Rattle.std.specs.Prelude.{◌≡◌, ◌↔◌, ◌∷◌, List, None, Option, Some, [], codes, pos, true, ℕ};
+ghost use Rattle.std.specs.Prelude.{◌≡◌, ◌↔◌, ◌∷◌, List, None, Option, Some, [], codes, negsuc, pos, true, ℕ};
+ghost use Rattle.th_base.specs.declared.lifecycle.Lifecycle.TheVariants.{Any};
 ghost use Rattle.th_base.specs.declared.number.ClassId.{ClassId};
 ghost use Rattle.th_base.specs.declared.number.MethodId.{MethodId};
+ghost use Rattle.th_base.specs.declared.operation.ArithOp.TheVariants.{Shl};
+ghost use Rattle.th_base.specs.declared.built_in.TheConstants.{CONSTRUCTOR};
 ghost use Rattle.th_runs.specs.Addresses.{HasObjects};
 ghost use Rattle.th_runs.specs.Entered.{InterfacesRunNoInstance, IsEntered};
 ghost use Rattle.th_runs.specs.Fitting.{AreOfKinds, IsOfKind, IsOfType, IsShaped};
@@ -10,11 +13,17 @@ ghost use Rattle.th_runs.specs.FrameKinds.{AreFramesOfKinds, IsAtKinds, IsCallin
 ghost use Rattle.th_runs.specs.Sound.{IsClosed};
 ghost use Rattle.th_runs.specs.Verified.{IsVerified};
 ghost use Rattle.th_runs.specs.Worked.{array_with, dangling_states, field_of, kinds_of_each, leading_state, one_field, other_slots, running_interface, slots_of_each};
+ghost use Rattle.th_runs.specs.WorkedRows.{acts_on, all_stuck, call_on, moves_on_short, nested, nested_store, plain_interface, special_call, writing_program, written_last};
+ghost use Rattle.th_syntax.specs.Effects.{Calls, Ends, GoesOn, SetsObject};
+ghost use Rattle.th_syntax.specs.Initial.{constant_value};
 ghost use Rattle.th_syntax.specs.Machine.{class_id, method_id};
 ghost use Rattle.th_syntax.specs.Program.{is_launchable};
+ghost use Rattle.th_syntax.specs.WorkedEffects.{i, l};
 ghost use Rattle.th_syntax.specs.WorkedFiles.{activity_value};
+ghost use Rattle.th_syntax.specs.WorkedRuns.{LeadsTo, launch};
 ghost use Rattle.th_syntax.specs.declared.class_file.ClassFile.{ClassFile};
-ghost use Rattle.th_syntax.specs.declared.instr.Instr.TheVariants.{Goto, Nop, Return};
+ghost use Rattle.th_syntax.specs.declared.class_file.Constant.TheVariants as constant;
+ghost use Rattle.th_syntax.specs.declared.instr.Instr.TheVariants.{Goto, Int, LArith, Long, Nop, Return};
 ghost use Rattle.th_syntax.specs.declared.kind.SlotKind.TheVariants as kind;
 ghost use Rattle.th_syntax.specs.declared.kind.SlotKind.{SlotKind};
 ghost use Rattle.th_syntax.specs.declared.machine.Frame.TheVariants.{Code as CodeFrame, Init as InitFrame, Launch as LaunchFrame};
@@ -22,10 +31,48 @@ ghost use Rattle.th_syntax.specs.declared.machine.Frame.{Frame};
 ghost use Rattle.th_syntax.specs.declared.machine.InitStage.{InitStage};
 ghost use Rattle.th_syntax.specs.declared.machine.LaunchStage.{LaunchStage};
 ghost use Rattle.th_syntax.specs.declared.machine.Mark.TheVariants.{Done, InProgress, Untouched};
-ghost use Rattle.th_syntax.specs.declared.machine.Slot.TheVariants.{Holds};
+ghost use Rattle.th_syntax.specs.declared.machine.Slot.TheVariants.{Holds, SecondHalf};
 ghost use Rattle.th_syntax.specs.declared.machine.Slot.{Slot};
 ghost use Rattle.th_syntax.specs.declared.machine.State.{State};
 ghost use Rattle.th_syntax.specs.declared.machine.Value.TheVariants.{Address, Int as IntValue, Long as LongValue, Null as NullValue};
+
+/// A call by `invokespecial` takes a constructor that it names itself, and a method that it names in a class
+/// above which the current one doesn't stand; it ends the run where what it takes has no code, and on an array.
+pub fn special_calls_are_told_apart()
+    ensures constructor { special_call 23 (codes "Upper") CONSTRUCTOR.now ≡ Calls 17 (Holds (Address 0) ∷ []) [] }
+    ensures no_superclass { special_call 18 (codes "Middle") (codes "m") ≡ Calls 21 (Holds (Address 0) ∷ Holds NullValue ∷ []) [] }
+    ensures without_code { special_call 18 (codes "Upper") (codes "onStart") ≡ Ends }
+    ensures object { call_on 1 ≡ Calls 0 (Holds (Address 1) ∷ []) [] }
+    ensures array { call_on 2 ≡ Ends }
+{}
+
+/// A copy of slots that aren't there is no step.
+pub fn moves_need_their_slots()
+    ensures { moves_on_short ≡ all_stuck }
+{}
+
+/// A number of an instruction or a constant is wrapped into 32 or 64 bits, and a long is shifted by six bits
+/// of the distance.
+pub fn numbers_are_kept_in_range()
+    ensures int { acts_on [] (Int (pos 2147483648)) ≡ GoesOn [] (Holds (IntValue (negsuc 2147483647)) ∷ []) }
+    ensures long { acts_on [] (Long (pos 9223372036854775808)) ≡ GoesOn [] (SecondHalf ∷ Holds (LongValue (negsuc 9223372036854775807)) ∷ []) }
+    ensures int_constant { constant_value [] (constant.Int (pos 2147483648)) ≡ IntValue (negsuc 2147483647) }
+    ensures long_constant { constant_value [] (constant.Long (pos 9223372036854775808)) ≡ LongValue (negsuc 9223372036854775807) }
+    ensures shift { acts_on (i 33 ∷ l 3) (LArith Shl) ≡ GoesOn [] (l 25769803776) }
+{}
+
+/// An interface has no objects, also where it isn't marked as abstract; and into an array of arrays of ints
+/// goes an array of ints, and none of longs.
+pub fn types_decide()
+    ensures interface { plain_interface ≡ Ends }
+    ensures ints { nested_store 1 ≡ SetsObject 0 (nested (Address 1)) [] }
+    ensures longs { nested_store 2 ≡ Ends }
+{}
+
+/// The initialiser of a class runs after that of its superclass.
+pub fn superclass_is_initialised_first()
+    ensures { LeadsTo Any writing_program (launch 12 ∷ []) written_last }
+{}
 
 /// All addresses of a state lead to its one object; and one that is past it, in a local, on a stack, in a
 /// launch, a static field, a field, an element or a launched object, doesn't.
