@@ -1,12 +1,12 @@
 -- Frames and terms are matched one with one.
-use Rattle.std.proofs.Common.{◌≡◌, ℕ, ℤ, ◌+◌, ◌<◌, ◌≤◌, ◌==◌, zero, suc, Bool, true, false, cond, List, [], ◌∷◌, length, map, drop, get_or, Option, None, Some, refl, sym, ap, subst, ◌∙◌, arith}
-use Rattle.std.specs.Prelude.{◌≢◌, ⊤}
+use Rattle.std.proofs.Common.{◌≡◌, ℕ, ℤ, ◌+◌, ◌<◌, ◌≤◌, ◌==◌, suc, Bool, true, false, cond, List, [], ◌∷◌, length, map, drop, get_or, Option, None, Some, refl, sym, ap, ◌∙◌}
+use Rattle.std.specs.Prelude.{◌≢◌}
 use Rattle.std.specs.Option.{option_and_then, option_map, option_map_or}
 use Rattle.std.specs.Ordering.{int_eq}
 use Rattle.th_query.specs.declared.query.Frame.{Frame}
 use Rattle.th_query.specs.declared.query.Query.{Query}
 use Rattle.th_query.specs.Subsumed.{matched, matched_in_turn, matched_all, matched_register, matched_frames, matched_static, matched_cell, matched_element, matched_fact, is_as_strong, is_subsumed, paired}
-use Rattle.th_canonical.specs.Matched.{matched_frame, matched_terms, matched_known}
+use Rattle.th_canonical.specs.Matched.{matched_frame, matched_terms}
 use Rattle.th_canonical.proofs.Ranging.{drop_at, drop_past}
 
 -- ---- frames

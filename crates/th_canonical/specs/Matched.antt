@@ -1,5 +1,5 @@
 -- Parts of the matching of two queries.
-use Rattle.std.specs.Prelude.{ℕ, ◌==◌, ℤ, List, Option, None, Some, if◌then◌else◌}
+use Rattle.std.specs.Prelude.{ℕ, ◌==◌, ℤ, List, Option, None, if◌then◌else◌}
 use Rattle.std.specs.Option.{option_and_then}
 use Rattle.th_query.specs.declared.query.Frame.{Frame}
 use Rattle.th_query.specs.declared.query.Query.{Query}

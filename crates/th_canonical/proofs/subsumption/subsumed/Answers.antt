@@ -1,4 +1,4 @@
-use Rattle.std.proofs.Common.{◌≡◌, ◌≢◌, ◌∙◌, sym, length, subst}
+use Rattle.std.proofs.Common.{◌∙◌, sym}
 use Rattle.th_canonical.proofs.Pairing.{frames_differ}
 use Rattle.th_canonical.proofs.subsumption.subsumed.Goals as goal
 
