@@ -1,1 +1,4 @@
 pub mod Ranging
+pub mod Turning
+pub mod Restoring
+pub mod Pairing

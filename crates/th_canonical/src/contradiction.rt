@@ -39,7 +39,7 @@ fn is_nothing(sym: &Sym) -> bool
 }
 
 // Whether there are no sites.
-fn is_empty(sites: &Sites) -> bool
+pub(crate) fn is_empty(sites: &Sites) -> bool
     ensures { result ≡ has_none sites.now }
 {
     sites.is_empty()

@@ -1,10 +1,13 @@
 //! The calls on queries of a backward search.
 //!
-//! Each call equals its definition in `th_query`. So far there is one: `is_contradiction` says whether
-//! a query is a contradiction, as the definition in `th_query/specs/Contradiction.antt` finds it; then
-//! no state meets the query, by the laws there.
+//! Each call equals its definition in `th_query`: `is_contradiction` says whether a query is a
+//! contradiction (`th_query/specs/Contradiction.antt`), and `subsumed` whether a query says all that
+//! another does (`th_query/specs/Subsumed.antt`). What the answers mean for the states that meet a
+//! query is said by the laws of `th_query`.
 #![tactic(auto)]
 
 mod contradiction;
+mod subsumption;
 
 pub use contradiction::is_contradiction;
+pub use subsumption::subsumed;

@@ -6,6 +6,7 @@ pub mod Formed
 pub mod Unifying
 pub mod Narrowing
 pub mod Below
+pub mod Alone
 pub mod Settling
 pub mod Mentioning
 pub mod Numbering

@@ -1,5 +1,5 @@
 // From-sets: every site below a bound, and more above it.
-ghost use Rattle.std.specs.Prelude.{◌≡◌, ◌↔◌, ◌≤◌, IfOk, IsTrue, [], ◌++◌, not};
+ghost use Rattle.std.specs.Prelude.{◌≡◌, ◌==◌, ◌↔◌, ◌≤◌, IfOk, IsTrue, [], ◌++◌, filter, not};
 ghost use Rattle.std.specs.List.{list_all};
 ghost use Rattle.th_base.specs.IdSet.{has};
 ghost use Rattle.th_query.specs.FromSets.{upto};
@@ -69,6 +69,20 @@ impl Sites {
         ensures { result ≡ list_all (λ a. not (has other.now a)) self.now }
     {
         none_below_in(self.below, other) && none_in(self.more.ids(), other)
+    }
+
+    /// The set without all sites but one: that site alone where it is a member, else none.
+    pub fn only(&self, alloc: Global, site: u32) -> Result<Sites, AllocError>
+        ensures { IfOk result (λ one. one ≡ filter (λ a. a == site) self.now) }
+    {
+        // For the proof alone: that the members ascend.
+        let _members = self.more.ids();
+        if !self.contains(site) {
+            return Ok(Sites::of(IdSet::new(alloc)));
+        }
+        let mut one = IdSet::new(alloc);
+        one.insert(site)?;
+        Ok(Sites::of(one))
     }
 
     /// Whether there are no members.
