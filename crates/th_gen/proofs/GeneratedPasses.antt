@@ -9,6 +9,7 @@ use Rattle.th_syntax.specs.Decoding.{locals_named}
 use Rattle.th_gen.specs.ClassText as text
 use Rattle.th_gen.specs.Passing.{name_numbers, switches_well, InstrPasses, FieldPasses, MethodPasses, Passes}
 use Rattle.th_gen.specs.Generated.{activity_name, object_type, plain_constructor, vec_constructor, vec_push, vec_initialiser, vec_class, keeping_class, guarded_class, pushing_class, static_field, class_name, class_of_kind, class_numbered}
+use Rattle.th_gen.specs.Worked.{abstract_method, varied_method, varied}
 use Rattle.th_gen.proofs.Fitting.{class_small}
 
 -- an instruction's checks
@@ -249,3 +250,32 @@ numbered_passes number named short = kind_passes (number % 3) (class_name number
 
 pub numbered_fits : (number : ℕ) → is_class_name (class_name number) ≡ true → length (class_name number) ≤ 65535 → text.fits (class_numbered number) ≡ true
 numbered_fits number named short = kind_fits (number % 3) (class_name number) named short
+
+-- ---- a class with operands of each kind
+
+varied_method_passes : MethodPasses varied_method
+unfolding field_type_of method_type_of method_at types_at type_at element_at name_before base_type result_at
+varied_method_passes = record {
+  access = omega arith;
+  stack = omega arith;
+  locals = omega arith;
+  name = refl;
+  type = refl;
+  kind = refl;
+  instrs = (ready 4 _ refl refl refl, (ready 4 _ refl refl refl, (ready 4 _ refl refl refl, (ready 4 _ refl refl refl, (ready 4 _ refl refl refl, (ready 4 _ refl refl refl, (ready 4 _ refl refl refl, (ready 4 _ refl refl refl, (ready 4 _ refl refl refl, (ready 4 _ refl refl refl, (ready 4 _ refl refl refl, (ready 4 _ refl refl refl, (ready 4 _ refl refl refl, (ready 4 _ refl refl refl, (ready 4 _ refl refl refl, (ready 4 _ refl refl refl, (ready 4 _ refl refl refl, (ready 4 _ refl refl refl, (ready 4 _ refl refl refl, (ready 4 _ refl refl refl, (ready 4 _ refl refl refl, tt)))))))))))))))))))));
+  numbers = (tt, (record { sfits = omega arith }, ((record { sfits = omega arith }, (record { sfits = omega arith }, tt)), (tt, (tt, (record { sfits = omega arith }, (record { sfits = omega arith }, (record { sfits = omega arith }, (tt, (tt, (tt, (tt, (tt, (tt, (tt, (tt, (tt, (tt, (tt, (tt, (tt, tt)))))))))))))))))))));
+  flow = refl;
+}
+
+abstract_method_passes : MethodPasses abstract_method
+unfolding field_type_of method_type_of method_at types_at type_at element_at name_before base_type result_at
+abstract_method_passes = record { access = omega arith; stack = omega arith; locals = omega arith; name = refl; type = refl; kind = refl; instrs = tt; numbers = tt; flow = refl }
+
+pub varied_passes : Passes varied
+unfolding field_type_of type_at element_at name_before base_type
+varied_passes = record {
+  name = refl;
+  super_name = refl;
+  fields = (record { access = omega arith; name = refl; type = refl }, tt);
+  methods = (abstract_method_passes, (varied_method_passes, tt));
+}

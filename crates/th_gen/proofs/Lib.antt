@@ -15,3 +15,7 @@ pub mod SameItems
 pub mod Spells
 pub mod Switches
 pub mod Targets
+pub mod Interning
+pub mod Joined
+pub mod Loops
+pub mod Finishing

@@ -4,4 +4,6 @@ pub mod Generated
 pub mod Items
 pub mod Passing
 pub mod Placing
+pub mod Refusals
 pub mod Spellings
+pub mod Worked

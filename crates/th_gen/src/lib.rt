@@ -1,18 +1,23 @@
-//! Classes to be written, and what their bytes stand for.
+//! The writer of class files, and the classes of the generated program.
 //!
 //! A `ClassWriter` is a class as plain data: names, members and instructions, whose branches lead to
-//! places of instructions. `ClassText` in `specs/` is its bytes, `ClassValue` the class file that it
-//! stands for, `Passing` where its names and instructions pass the checks of class files. The layer
-//! above uses the law `written_classes_stand`: where a class has room and passes, its bytes are a class
-//! file that stands for it. `Generated` has the classes of the generated program. docs/GENERATOR.md tells
-//! the same in plain words.
+//! places of instructions. `finish` gives its bytes (`ClassText` in `specs/`), which stand for the class
+//! file `ClassValue` where names and instructions pass the checks (`Passing`), or refuses a class that
+//! has no room. The layer above uses the clauses of `finish`. `Generated` has the classes of the generated
+//! program. docs/GENERATOR.md tells the same in plain words.
 #![tactic(auto)]
 
+mod code;
 mod draft;
+mod finish;
 mod item;
 pub mod laws;
+mod placing;
+mod pool;
 mod spelling;
+mod write;
 
 pub use draft::{ClassWriter, DraftField, DraftMethod};
 pub use item::PoolItem;
+pub use pool::TooLarge;
 pub use spelling::Spelling;
