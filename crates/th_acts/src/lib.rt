@@ -1,6 +1,6 @@
 //! What the machine's instructions do.
 //!
-//! `act` finds out what an instruction does to a state with a code frame on top, as an `Act`: a few
+//! `act_of` finds out what an instruction does to a state with a code frame on top, as an `Act`: a few
 //! numbers that say which slots go and what comes, and nothing is changed. What it needs of the program
 //! comes from the table of `th_resolved`. Its contract says that the act means exactly the effect that
 //! the machine's definitions give (`specs/Acts.antt`), where an instruction that can't run ends the run;
