@@ -9,8 +9,9 @@ use Rattle.th_coarse.specs.declared.judged.Judged.{Judged}
 use Rattle.th_coarse.specs.declared.judged.Mark.{Mark}
 use Rattle.th_coarse.specs.declared.judged.Mark.TheVariants.{Filtered, Survives}
 
--- Stores into a field of its class, into one of the superinterface and into one of type int, and makes an
--- object of an abstract Activity. What stands behind its return isn't reached.
+-- Stores into a field of its class, into one of the superinterface, into one of type int and into one that
+-- isn't static, and names an abstract Activity and a class that is no Activity. What stands behind its
+-- return isn't reached.
 abbrev pub storing_code : Member
 storing_code = record (member_with 1 (codes "onCreate") (codes "(Landroid/os/Bundle;)V")) {
   code = Some record {
@@ -21,11 +22,13 @@ storing_code = record (member_with 1 (codes "onCreate") (codes "(Landroid/os/Bun
         ∷ (1, PutStatic (ref_of (codes "Act") (codes "kept") (codes "LAct;")))
         ∷ (4, PutStatic (ref_of (codes "Act") (codes "shared") (codes "[LAct;")))
         ∷ (7, PutStatic (ref_of (codes "Act") (codes "count") (codes "I")))
-        ∷ (10, New (codes "Base"))
-        ∷ (13, Return)
-        ∷ (14, PutStatic (ref_of (codes "Act") (codes "lost") (codes "LAct;")))
-        ∷ (17, New (codes "Never"))
-        ∷ (20, Return)
+        ∷ (10, PutStatic (ref_of (codes "Act") (codes "own") (codes "LAct;")))
+        ∷ (13, New (codes "Base"))
+        ∷ (16, New (codes "Other"))
+        ∷ (19, Return)
+        ∷ (20, PutStatic (ref_of (codes "Act") (codes "lost") (codes "LAct;")))
+        ∷ (23, New (codes "Never"))
+        ∷ (26, Return)
         ∷ [];
     handlers = 2;
   };
