@@ -1,0 +1,4 @@
+pub mod Coarse
+pub mod Report
+pub mod Safety
+pub mod Worked
