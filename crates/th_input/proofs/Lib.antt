@@ -1,0 +1,5 @@
+pub mod Fronts
+pub mod Growing
+pub mod Lines
+pub mod Reading
+pub mod Once

@@ -1,0 +1,3 @@
+pub mod Fetching
+pub mod Listing
+pub mod Input
