@@ -3,6 +3,7 @@ use Rattle.std.proofs.Common.{◌≡◌, ℕ, zero, suc, ◌+◌, ◌-◌, ◌<�
 use Rattle.std.specs.Prelude.{nat_le, pos, ◌-ℤ◌}
 use Rattle.std.specs.List.{list_any}
 use Rattle.std.proofs.lemmas.Bool.Decides.{nat_tests}
+use Rattle.th_syntax.specs.declared.opcode.TheConstants as opcode
 use Rattle.th_syntax.specs.declared.instr.Instr.{Instr}
 use Rattle.th_syntax.specs.declared.instr.Instr.TheVariants.{Int, Long, ILoad, LLoad, ALoad, IStore, LStore, AStore}
 use Rattle.th_syntax.specs.ClassBytes.{Pool}
@@ -47,66 +48,66 @@ placed pool pc first code i le e =
     let is : first + (code - first) ≡ code = omega arith in
     subst (λ (k : ℕ). operands_of pool k pc ≡ plain i) is e
 
-pub int_row : (pool : Pool) (pc code : ℕ) → (nat_le 2 code && nat_le code 8) ≡ true → operands_of pool code pc ≡ plain (Int (pos (code - 2) -ℤ pos 1))
+pub int_row : (pool : Pool) (pc code : ℕ) → (nat_le opcode.ICONST_M1 code && nat_le code opcode.ICONST_5) ≡ true → operands_of pool code pc ≡ plain (Int (pos (code - opcode.ICONST_M1) -ℤ pos 1))
 unfolding operands_of
 int_row pool pc code e =
-    let low = not_below 2 8 code e in
-    let high = not_above 2 8 code e in
-    placed pool pc 2 code _ low (upto7 (λ k. operands_of pool (2 + k) pc ≡ plain (Int (pos k -ℤ pos 1))) refl refl refl refl refl refl refl (code - 2) (omega arith))
+    let low = not_below opcode.ICONST_M1 opcode.ICONST_5 code e in
+    let high = not_above opcode.ICONST_M1 opcode.ICONST_5 code e in
+    placed pool pc opcode.ICONST_M1 code _ low (upto7 (λ k. operands_of pool (opcode.ICONST_M1 + k) pc ≡ plain (Int (pos k -ℤ pos 1))) refl refl refl refl refl refl refl (code - opcode.ICONST_M1) (omega arith))
 
-pub long_row : (pool : Pool) (pc code : ℕ) → (nat_le 9 code && nat_le code 10) ≡ true → operands_of pool code pc ≡ plain (Long (pos (code - 9)))
+pub long_row : (pool : Pool) (pc code : ℕ) → (nat_le opcode.LCONST_0 code && nat_le code opcode.LCONST_1) ≡ true → operands_of pool code pc ≡ plain (Long (pos (code - opcode.LCONST_0)))
 unfolding operands_of
 long_row pool pc code e =
-    let low = not_below 9 10 code e in
-    let high = not_above 9 10 code e in
-    placed pool pc 9 code _ low (upto2 (λ k. operands_of pool (9 + k) pc ≡ plain (Long (pos k))) refl refl (code - 9) (omega arith))
+    let low = not_below opcode.LCONST_0 opcode.LCONST_1 code e in
+    let high = not_above opcode.LCONST_0 opcode.LCONST_1 code e in
+    placed pool pc opcode.LCONST_0 code _ low (upto2 (λ k. operands_of pool (opcode.LCONST_0 + k) pc ≡ plain (Long (pos k))) refl refl (code - opcode.LCONST_0) (omega arith))
 
-pub row_26 : (pool : Pool) (pc code : ℕ) → (nat_le 26 code && nat_le code 29) ≡ true → operands_of pool code pc ≡ plain (ILoad (code - 26))
+pub row_iload_0 : (pool : Pool) (pc code : ℕ) → (nat_le opcode.ILOAD_0 code && nat_le code opcode.ILOAD_3) ≡ true → operands_of pool code pc ≡ plain (ILoad (code - opcode.ILOAD_0))
 unfolding operands_of
-row_26 pool pc code e =
-    let low = not_below 26 29 code e in
-    let high = not_above 26 29 code e in
-    placed pool pc 26 code _ low (upto4 (λ k. operands_of pool (26 + k) pc ≡ plain (ILoad k)) refl refl refl refl (code - 26) (omega arith))
+row_iload_0 pool pc code e =
+    let low = not_below opcode.ILOAD_0 opcode.ILOAD_3 code e in
+    let high = not_above opcode.ILOAD_0 opcode.ILOAD_3 code e in
+    placed pool pc opcode.ILOAD_0 code _ low (upto4 (λ k. operands_of pool (opcode.ILOAD_0 + k) pc ≡ plain (ILoad k)) refl refl refl refl (code - opcode.ILOAD_0) (omega arith))
 
-pub row_30 : (pool : Pool) (pc code : ℕ) → (nat_le 30 code && nat_le code 33) ≡ true → operands_of pool code pc ≡ plain (LLoad (code - 30))
+pub row_lload_0 : (pool : Pool) (pc code : ℕ) → (nat_le opcode.LLOAD_0 code && nat_le code opcode.LLOAD_3) ≡ true → operands_of pool code pc ≡ plain (LLoad (code - opcode.LLOAD_0))
 unfolding operands_of
-row_30 pool pc code e =
-    let low = not_below 30 33 code e in
-    let high = not_above 30 33 code e in
-    placed pool pc 30 code _ low (upto4 (λ k. operands_of pool (30 + k) pc ≡ plain (LLoad k)) refl refl refl refl (code - 30) (omega arith))
+row_lload_0 pool pc code e =
+    let low = not_below opcode.LLOAD_0 opcode.LLOAD_3 code e in
+    let high = not_above opcode.LLOAD_0 opcode.LLOAD_3 code e in
+    placed pool pc opcode.LLOAD_0 code _ low (upto4 (λ k. operands_of pool (opcode.LLOAD_0 + k) pc ≡ plain (LLoad k)) refl refl refl refl (code - opcode.LLOAD_0) (omega arith))
 
-pub row_42 : (pool : Pool) (pc code : ℕ) → (nat_le 42 code && nat_le code 45) ≡ true → operands_of pool code pc ≡ plain (ALoad (code - 42))
+pub row_aload_0 : (pool : Pool) (pc code : ℕ) → (nat_le opcode.ALOAD_0 code && nat_le code opcode.ALOAD_3) ≡ true → operands_of pool code pc ≡ plain (ALoad (code - opcode.ALOAD_0))
 unfolding operands_of
-row_42 pool pc code e =
-    let low = not_below 42 45 code e in
-    let high = not_above 42 45 code e in
-    placed pool pc 42 code _ low (upto4 (λ k. operands_of pool (42 + k) pc ≡ plain (ALoad k)) refl refl refl refl (code - 42) (omega arith))
+row_aload_0 pool pc code e =
+    let low = not_below opcode.ALOAD_0 opcode.ALOAD_3 code e in
+    let high = not_above opcode.ALOAD_0 opcode.ALOAD_3 code e in
+    placed pool pc opcode.ALOAD_0 code _ low (upto4 (λ k. operands_of pool (opcode.ALOAD_0 + k) pc ≡ plain (ALoad k)) refl refl refl refl (code - opcode.ALOAD_0) (omega arith))
 
-pub row_59 : (pool : Pool) (pc code : ℕ) → (nat_le 59 code && nat_le code 62) ≡ true → operands_of pool code pc ≡ plain (IStore (code - 59))
+pub row_istore_0 : (pool : Pool) (pc code : ℕ) → (nat_le opcode.ISTORE_0 code && nat_le code opcode.ISTORE_3) ≡ true → operands_of pool code pc ≡ plain (IStore (code - opcode.ISTORE_0))
 unfolding operands_of
-row_59 pool pc code e =
-    let low = not_below 59 62 code e in
-    let high = not_above 59 62 code e in
-    placed pool pc 59 code _ low (upto4 (λ k. operands_of pool (59 + k) pc ≡ plain (IStore k)) refl refl refl refl (code - 59) (omega arith))
+row_istore_0 pool pc code e =
+    let low = not_below opcode.ISTORE_0 opcode.ISTORE_3 code e in
+    let high = not_above opcode.ISTORE_0 opcode.ISTORE_3 code e in
+    placed pool pc opcode.ISTORE_0 code _ low (upto4 (λ k. operands_of pool (opcode.ISTORE_0 + k) pc ≡ plain (IStore k)) refl refl refl refl (code - opcode.ISTORE_0) (omega arith))
 
-pub row_63 : (pool : Pool) (pc code : ℕ) → (nat_le 63 code && nat_le code 66) ≡ true → operands_of pool code pc ≡ plain (LStore (code - 63))
+pub row_lstore_0 : (pool : Pool) (pc code : ℕ) → (nat_le opcode.LSTORE_0 code && nat_le code opcode.LSTORE_3) ≡ true → operands_of pool code pc ≡ plain (LStore (code - opcode.LSTORE_0))
 unfolding operands_of
-row_63 pool pc code e =
-    let low = not_below 63 66 code e in
-    let high = not_above 63 66 code e in
-    placed pool pc 63 code _ low (upto4 (λ k. operands_of pool (63 + k) pc ≡ plain (LStore k)) refl refl refl refl (code - 63) (omega arith))
+row_lstore_0 pool pc code e =
+    let low = not_below opcode.LSTORE_0 opcode.LSTORE_3 code e in
+    let high = not_above opcode.LSTORE_0 opcode.LSTORE_3 code e in
+    placed pool pc opcode.LSTORE_0 code _ low (upto4 (λ k. operands_of pool (opcode.LSTORE_0 + k) pc ≡ plain (LStore k)) refl refl refl refl (code - opcode.LSTORE_0) (omega arith))
 
-pub row_75 : (pool : Pool) (pc code : ℕ) → (nat_le 75 code && nat_le code 78) ≡ true → operands_of pool code pc ≡ plain (AStore (code - 75))
+pub row_astore_0 : (pool : Pool) (pc code : ℕ) → (nat_le opcode.ASTORE_0 code && nat_le code opcode.ASTORE_3) ≡ true → operands_of pool code pc ≡ plain (AStore (code - opcode.ASTORE_0))
 unfolding operands_of
-row_75 pool pc code e =
-    let low = not_below 75 78 code e in
-    let high = not_above 75 78 code e in
-    placed pool pc 75 code _ low (upto4 (λ k. operands_of pool (75 + k) pc ≡ plain (AStore k)) refl refl refl refl (code - 75) (omega arith))
+row_astore_0 pool pc code e =
+    let low = not_below opcode.ASTORE_0 opcode.ASTORE_3 code e in
+    let high = not_above opcode.ASTORE_0 opcode.ASTORE_3 code e in
+    placed pool pc opcode.ASTORE_0 code _ low (upto4 (λ k. operands_of pool (opcode.ASTORE_0 + k) pc ≡ plain (AStore k)) refl refl refl refl (code - opcode.ASTORE_0) (omega arith))
 
-pub no_constants : (code : ℕ) → (nat_le 2 code && nat_le code 8) ≡ false → (nat_le 9 code && nat_le code 10) ≡ false → list_any (is_within code) small_constants ≡ false
+pub no_constants : (code : ℕ) → (nat_le opcode.ICONST_M1 code && nat_le code opcode.ICONST_5) ≡ false → (nat_le opcode.LCONST_0 code && nat_le code opcode.LCONST_1) ≡ false → list_any (is_within code) small_constants ≡ false
 no_constants code e f = rw (e, f) refl
 
-pub no_locals : (code : ℕ) → (nat_le 26 code && nat_le code 29) ≡ false → (nat_le 30 code && nat_le code 33) ≡ false → (nat_le 42 code && nat_le code 45) ≡ false → (nat_le 59 code && nat_le code 62) ≡ false → (nat_le 63 code && nat_le code 66) ≡ false → (nat_le 75 code && nat_le code 78) ≡ false → list_any (is_within code) small_locals ≡ false
+pub no_locals : (code : ℕ) → (nat_le opcode.ILOAD_0 code && nat_le code opcode.ILOAD_3) ≡ false → (nat_le opcode.LLOAD_0 code && nat_le code opcode.LLOAD_3) ≡ false → (nat_le opcode.ALOAD_0 code && nat_le code opcode.ALOAD_3) ≡ false → (nat_le opcode.ISTORE_0 code && nat_le code opcode.ISTORE_3) ≡ false → (nat_le opcode.LSTORE_0 code && nat_le code opcode.LSTORE_3) ≡ false → (nat_le opcode.ASTORE_0 code && nat_le code opcode.ASTORE_3) ≡ false → list_any (is_within code) small_locals ≡ false
 no_locals code a b c d e f = rw (a, b, c, d, e, f) refl
 
 pub not_low : (first last code : ℕ) → (nat_le first code && nat_le code last) ≡ true → first ≤ code
@@ -114,4 +115,4 @@ not_low first last code e = not_below first last code e
 
 pub ruleset constants = (int_row, long_row, no_constants, not_low)
 
-pub ruleset locals = (row_26, row_30, row_42, row_59, row_63, row_75, no_locals, not_low)
+pub ruleset locals = (row_iload_0, row_lload_0, row_aload_0, row_istore_0, row_lstore_0, row_astore_0, no_locals, not_low)

@@ -3,6 +3,7 @@ use Rattle.std.proofs.Common.{◌≡◌, ℕ, true, false, List, Result, Ok, Err
 use Rattle.std.specs.Prelude.{Option, Some, None, ◌==◌, ℤ}
 use Rattle.std.specs.Option.{option_map, option_map_or, option_and_then}
 use Rattle.th_syntax.specs.declared.cause.TheConstants as cause
+use Rattle.th_syntax.specs.declared.tag.TheConstants as tag
 use Rattle.th_syntax.specs.declared.instr.Instr.{Instr}
 use Rattle.th_syntax.specs.declared.instr.Instr.TheVariants.{Int, Long, Str}
 use Rattle.th_syntax.specs.Forms.{Form, whole, item, wrong, Found, read}
@@ -72,12 +73,12 @@ text_at pool None bytes copy e same = absurd cc
 text_at pool (Some (string text)) bytes copy e same = rw (← e, same) refl
 text_at pool (Some other) bytes copy e same = absurd cc
 
-float_at : (pool : Pool) (o : Option Entry) → option_map_or (λ found. found == 4) (option_map tag_of o) false ≡ true → said (given cause.OPCODE o (loaded pool)) ≡ Err 7
+float_at : (pool : Pool) (o : Option Entry) → option_map_or (λ found. found == tag.FLOAT) (option_map tag_of o) false ≡ true → said (given cause.OPCODE o (loaded pool)) ≡ Err 7
 float_at pool None e = absurd cc
 float_at pool (Some float) e = refl
 float_at pool (Some other) e = absurd cc
 
-other_at : (pool : Pool) (o : Option Entry) → None ≡ option_and_then integer_in o → None ≡ option_and_then (string_in pool) o → option_map_or (λ found. found == 4) (option_map tag_of o) false ≡ false → said (given cause.OPCODE o (loaded pool)) ≡ Err 10
+other_at : (pool : Pool) (o : Option Entry) → None ≡ option_and_then integer_in o → None ≡ option_and_then (string_in pool) o → option_map_or (λ found. found == tag.FLOAT) (option_map tag_of o) false ≡ false → said (given cause.OPCODE o (loaded pool)) ≡ Err cause.OPCODE
 other_at pool None e f g = refl
 other_at pool (Some (integer w)) e f g = absurd cc
 other_at pool (Some (string text)) e f g = rw (← f) refl
@@ -90,10 +91,10 @@ load_int pool index v e = int_at pool (entry_of pool index) v e
 pub load_text : (pool : Pool) (index : ℕ) (bytes copy : List ℕ) → Some bytes ≡ string_of pool index → copy ≡ bytes → said (load pool index) ≡ Ok (Str copy)
 load_text pool index bytes copy e same = text_at pool (entry_of pool index) bytes copy e same
 
-pub load_float : (pool : Pool) (index : ℕ) → has_tag pool index 4 ≡ true → said (load pool index) ≡ Err 7
+pub load_float : (pool : Pool) (index : ℕ) → has_tag pool index tag.FLOAT ≡ true → said (load pool index) ≡ Err 7
 load_float pool index e = float_at pool (entry_of pool index) e
 
-pub load_other : (pool : Pool) (index : ℕ) → None ≡ integer_of pool index → None ≡ string_of pool index → has_tag pool index 4 ≡ false → said (load pool index) ≡ Err 10
+pub load_other : (pool : Pool) (index : ℕ) → None ≡ integer_of pool index → None ≡ string_of pool index → has_tag pool index tag.FLOAT ≡ false → said (load pool index) ≡ Err cause.OPCODE
 load_other pool index e f g = other_at pool (entry_of pool index) e f g
 
 pub ruleset loads = (load_int, load_text, load_float, load_other)
@@ -105,12 +106,12 @@ long_at None v e = absurd cc
 long_at (Some (long w)) v e = let same : w ≡ v = cc in ap (λ (x : ℤ). (let r : Result Instr ℕ = Ok (Long x) in r)) same
 long_at (Some other) v e = absurd cc
 
-double_at : (o : Option Entry) → option_map_or (λ found. found == 6) (option_map tag_of o) false ≡ true → said (given cause.OPCODE o loaded_wide) ≡ Err 7
+double_at : (o : Option Entry) → option_map_or (λ found. found == tag.DOUBLE) (option_map tag_of o) false ≡ true → said (given cause.OPCODE o loaded_wide) ≡ Err 7
 double_at None e = absurd cc
 double_at (Some double) e = refl
 double_at (Some other) e = absurd cc
 
-wide_other_at : (o : Option Entry) → None ≡ option_and_then long_in o → option_map_or (λ found. found == 6) (option_map tag_of o) false ≡ false → said (given cause.OPCODE o loaded_wide) ≡ Err 10
+wide_other_at : (o : Option Entry) → None ≡ option_and_then long_in o → option_map_or (λ found. found == tag.DOUBLE) (option_map tag_of o) false ≡ false → said (given cause.OPCODE o loaded_wide) ≡ Err cause.OPCODE
 wide_other_at None e g = refl
 wide_other_at (Some (long w)) e g = absurd cc
 wide_other_at (Some double) e g = absurd cc
@@ -119,10 +120,10 @@ wide_other_at (Some other) e g = refl
 pub wide_long : (pool : Pool) (index : ℕ) (v : ℤ) → Some v ≡ long_of pool index → said (load_wide pool index) ≡ Ok (Long v)
 wide_long pool index v e = long_at (entry_of pool index) v e
 
-pub wide_double : (pool : Pool) (index : ℕ) → has_tag pool index 6 ≡ true → said (load_wide pool index) ≡ Err 7
+pub wide_double : (pool : Pool) (index : ℕ) → has_tag pool index tag.DOUBLE ≡ true → said (load_wide pool index) ≡ Err 7
 wide_double pool index e = double_at (entry_of pool index) e
 
-pub wide_other : (pool : Pool) (index : ℕ) → None ≡ long_of pool index → has_tag pool index 6 ≡ false → said (load_wide pool index) ≡ Err 10
+pub wide_other : (pool : Pool) (index : ℕ) → None ≡ long_of pool index → has_tag pool index tag.DOUBLE ≡ false → said (load_wide pool index) ≡ Err cause.OPCODE
 wide_other pool index e g = wide_other_at (entry_of pool index) e g
 
 pub ruleset wide_loads = (wide_long, wide_double, wide_other)

@@ -3,6 +3,7 @@ use Rattle.std.proofs.Common.{◌≡◌, ◌⊎◌, ℕ, Bool, true, false, cond
 use Rattle.std.specs.Prelude.{Option, Some, None, ◌==◌}
 use Rattle.std.specs.List.{list_any}
 use Rattle.std.specs.Option.{option_map, option_map_or, option_and_then}
+use Rattle.th_syntax.specs.declared.cause.TheConstants as cause
 use Rattle.th_syntax.specs.declared.instr.MemberRef.{MemberRef}
 use Rattle.th_syntax.specs.ClassBytes.{Pool}
 use Rattle.th_syntax.specs.PoolChecks.{tag_at, member_of, tagged_member_of}
@@ -44,13 +45,13 @@ missing : (tags : List ℕ) (o : Option ℕ) (p : Option MemberRef) → (o ≡ N
 missing tags o p (inl e) = rw (e, no_tag tags) refl
 missing tags o p (inr e) = rw e (either_none (list_any (λ x. option_map_or (λ found. found == x) o false) tags))
 
-pub member_missing : (pool : Pool) (tags : List ℕ) (index : ℕ) (numbers : MemberRef → List ℕ) → None ≡ tagged_member_of pool index → named numbers (member_among pool tags index) ≡ Err 11
+pub member_missing : (pool : Pool) (tags : List ℕ) (index : ℕ) (numbers : MemberRef → List ℕ) → None ≡ tagged_member_of pool index → named numbers (member_among pool tags index) ≡ Err cause.CODE_SHAPE
 member_missing pool tags index numbers e = ap (named numbers) (missing tags (tag_at pool index) (member_of pool index) (none_of (tag_at pool index) (member_of pool index) e))
 
 not_there : (tags : List ℕ) (t : ℕ) (p : Option MemberRef) → list_any (λ x. t == x) tags ≡ false → among_by (Some t) p tags ≡ None
 not_there tags t p other = rw other refl
 
-pub member_other : (pool : Pool) (tags : List ℕ) (index t : ℕ) (m : MemberRef) (numbers : MemberRef → List ℕ) → Some (t, m) ≡ tagged_member_of pool index → list_any (λ x. t == x) tags ≡ false → named numbers (member_among pool tags index) ≡ Err 11
+pub member_other : (pool : Pool) (tags : List ℕ) (index t : ℕ) (m : MemberRef) (numbers : MemberRef → List ℕ) → Some (t, m) ≡ tagged_member_of pool index → list_any (λ x. t == x) tags ≡ false → named numbers (member_among pool tags index) ≡ Err cause.CODE_SHAPE
 member_other pool tags index t m numbers e other =
     let parts = parts_of t m (tag_at pool index) (member_of pool index) e in
     ap (named numbers) (ap (λ (o : Option ℕ). among_by o (member_of pool index) tags) parts.0 ∙ not_there tags t (member_of pool index) other)
@@ -70,7 +71,7 @@ pub ruleset members = (member_missing, member_other, member_flawed, member_fine)
 
 -- ---- classes
 
-pub class_missing : (numbers : List ℕ → List ℕ) (o : Option (List ℕ)) → None ≡ o → named numbers o ≡ Err 11
+pub class_missing : (numbers : List ℕ → List ℕ) (o : Option (List ℕ)) → None ≡ o → named numbers o ≡ Err cause.CODE_SHAPE
 class_missing numbers o e = ap (named numbers) (sym e)
 
 pub class_flawed : (numbers : List ℕ → List ℕ) (o : Option (List ℕ)) (name : List ℕ) (n : ℕ) → Some name ≡ o → Some n ≡ least_of (numbers name) → named numbers o ≡ Err n

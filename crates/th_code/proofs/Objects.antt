@@ -1,7 +1,8 @@
 -- Objects and arrays, opcode by opcode.
-use Rattle.std.proofs.Common.{◌≡◌, ◌≢◌, ℕ, ◌≤◌, ◌||◌, not, Bool, true, false, List, [], ◌∷◌, Ok, Err, refl, sym, ap, ◌∙◌, arith}
+use Rattle.std.proofs.Common.{◌≡◌, ◌≢◌, ℕ, ◌+◌, ◌-◌, ◌<◌, ◌≤◌, ◌||◌, not, Bool, true, false, List, [], ◌∷◌, Ok, Err, refl, sym, ap, ◌∙◌, arith}
 use Rattle.std.specs.Prelude.{Option, Some, None, ◌==◌}
 use Rattle.std.specs.List.{list_any}
+use Rattle.th_syntax.specs.declared.opcode.TheConstants as opcode
 use Rattle.th_syntax.specs.declared.instr.Instr.TheVariants.{New, NewArray, ANewArray, ArrayLength, Throw, CheckCast, InstanceOf, MonitorEnter, MonitorExit}
 use Rattle.th_syntax.specs.declared.cause.TheConstants as cause
 use Rattle.th_syntax.specs.declared.instr.Primitive.{Primitive}
@@ -15,103 +16,103 @@ use Rattle.th_code.proofs.Operands.{judged_after, judged_stops, judged_plain}
 use Rattle.th_code.proofs.Opcodes.{not_it}
 use Rattle.th_code.proofs.Rows.{covers, all_in, sieved, refused_opcode}
 
-pub row_187 : (pool : Pool) (pc at : ℕ) (bytes : List ℕ) (p x b : ℕ) (u : List ℕ) (m : (List ℕ)) → operand u2 at bytes ≡ Ok (record { at = p; value = x }, b, u) → named (class_name_numbers) (class_of pool x) ≡ Ok m → judged (operands_of pool 187 pc) at bytes ≡ Ok (New m, b, u)
+pub row_new : (pool : Pool) (pc at : ℕ) (bytes : List ℕ) (p x b : ℕ) (u : List ℕ) (m : (List ℕ)) → operand u2 at bytes ≡ Ok (record { at = p; value = x }, b, u) → named (class_name_numbers) (class_of pool x) ≡ Ok m → judged (operands_of pool opcode.NEW pc) at bytes ≡ Ok (New m, b, u)
 unfolding operands_of
-row_187 pool pc at bytes p x b u m e is = judged_after u2 (λ (v : Placed ℕ). given cause.CODE_SHAPE (class_of pool v.value) (λ (y : (List ℕ)). checked (New y) (class_name_numbers y))) at bytes (record { at = p; value = x }, b, u) e ∙ given_ok (class_name_numbers) (class_of pool x) New m b u is
+row_new pool pc at bytes p x b u m e is = judged_after u2 (λ (v : Placed ℕ). given cause.CODE_SHAPE (class_of pool v.value) (λ (y : (List ℕ)). checked (New y) (class_name_numbers y))) at bytes (record { at = p; value = x }, b, u) e ∙ given_ok (class_name_numbers) (class_of pool x) New m b u is
 
-pub refused_187 : (pool : Pool) (pc at : ℕ) (bytes : List ℕ) (p x b : ℕ) (u : List ℕ) (n : ℕ) → operand u2 at bytes ≡ Ok (record { at = p; value = x }, b, u) → named (class_name_numbers) (class_of pool x) ≡ Err n → judged (operands_of pool 187 pc) at bytes ≡ Err n
+pub refused_new : (pool : Pool) (pc at : ℕ) (bytes : List ℕ) (p x b : ℕ) (u : List ℕ) (n : ℕ) → operand u2 at bytes ≡ Ok (record { at = p; value = x }, b, u) → named (class_name_numbers) (class_of pool x) ≡ Err n → judged (operands_of pool opcode.NEW pc) at bytes ≡ Err n
 unfolding operands_of
-refused_187 pool pc at bytes p x b u n e is = judged_after u2 (λ (v : Placed ℕ). given cause.CODE_SHAPE (class_of pool v.value) (λ (y : (List ℕ)). checked (New y) (class_name_numbers y))) at bytes (record { at = p; value = x }, b, u) e ∙ given_err (class_name_numbers) (class_of pool x) New n b u is
+refused_new pool pc at bytes p x b u n e is = judged_after u2 (λ (v : Placed ℕ). given cause.CODE_SHAPE (class_of pool v.value) (λ (y : (List ℕ)). checked (New y) (class_name_numbers y))) at bytes (record { at = p; value = x }, b, u) e ∙ given_err (class_name_numbers) (class_of pool x) New n b u is
 
-pub stop_187 : (pool : Pool) (pc at : ℕ) (bytes : List ℕ) (n : ℕ) → operand u2 at bytes ≡ Err n → judged (operands_of pool 187 pc) at bytes ≡ Err n
+pub stop_new : (pool : Pool) (pc at : ℕ) (bytes : List ℕ) (n : ℕ) → operand u2 at bytes ≡ Err n → judged (operands_of pool opcode.NEW pc) at bytes ≡ Err n
 unfolding operands_of
-stop_187 pool pc at bytes n e = judged_stops u2 (λ (v : Placed ℕ). given cause.CODE_SHAPE (class_of pool v.value) (λ (y : (List ℕ)). checked (New y) (class_name_numbers y))) at bytes n e
+stop_new pool pc at bytes n e = judged_stops u2 (λ (v : Placed ℕ). given cause.CODE_SHAPE (class_of pool v.value) (λ (y : (List ℕ)). checked (New y) (class_name_numbers y))) at bytes n e
 
-pub row_189 : (pool : Pool) (pc at : ℕ) (bytes : List ℕ) (p x b : ℕ) (u : List ℕ) (m : (List ℕ)) → operand u2 at bytes ≡ Ok (record { at = p; value = x }, b, u) → named (class_or_array_numbers) (class_of pool x) ≡ Ok m → judged (operands_of pool 189 pc) at bytes ≡ Ok (ANewArray m, b, u)
+pub row_anewarray : (pool : Pool) (pc at : ℕ) (bytes : List ℕ) (p x b : ℕ) (u : List ℕ) (m : (List ℕ)) → operand u2 at bytes ≡ Ok (record { at = p; value = x }, b, u) → named (class_or_array_numbers) (class_of pool x) ≡ Ok m → judged (operands_of pool opcode.ANEWARRAY pc) at bytes ≡ Ok (ANewArray m, b, u)
 unfolding operands_of
-row_189 pool pc at bytes p x b u m e is = judged_after u2 (λ (v : Placed ℕ). given cause.CODE_SHAPE (class_of pool v.value) (λ (y : (List ℕ)). checked (ANewArray y) (class_or_array_numbers y))) at bytes (record { at = p; value = x }, b, u) e ∙ given_ok (class_or_array_numbers) (class_of pool x) ANewArray m b u is
+row_anewarray pool pc at bytes p x b u m e is = judged_after u2 (λ (v : Placed ℕ). given cause.CODE_SHAPE (class_of pool v.value) (λ (y : (List ℕ)). checked (ANewArray y) (class_or_array_numbers y))) at bytes (record { at = p; value = x }, b, u) e ∙ given_ok (class_or_array_numbers) (class_of pool x) ANewArray m b u is
 
-pub refused_189 : (pool : Pool) (pc at : ℕ) (bytes : List ℕ) (p x b : ℕ) (u : List ℕ) (n : ℕ) → operand u2 at bytes ≡ Ok (record { at = p; value = x }, b, u) → named (class_or_array_numbers) (class_of pool x) ≡ Err n → judged (operands_of pool 189 pc) at bytes ≡ Err n
+pub refused_anewarray : (pool : Pool) (pc at : ℕ) (bytes : List ℕ) (p x b : ℕ) (u : List ℕ) (n : ℕ) → operand u2 at bytes ≡ Ok (record { at = p; value = x }, b, u) → named (class_or_array_numbers) (class_of pool x) ≡ Err n → judged (operands_of pool opcode.ANEWARRAY pc) at bytes ≡ Err n
 unfolding operands_of
-refused_189 pool pc at bytes p x b u n e is = judged_after u2 (λ (v : Placed ℕ). given cause.CODE_SHAPE (class_of pool v.value) (λ (y : (List ℕ)). checked (ANewArray y) (class_or_array_numbers y))) at bytes (record { at = p; value = x }, b, u) e ∙ given_err (class_or_array_numbers) (class_of pool x) ANewArray n b u is
+refused_anewarray pool pc at bytes p x b u n e is = judged_after u2 (λ (v : Placed ℕ). given cause.CODE_SHAPE (class_of pool v.value) (λ (y : (List ℕ)). checked (ANewArray y) (class_or_array_numbers y))) at bytes (record { at = p; value = x }, b, u) e ∙ given_err (class_or_array_numbers) (class_of pool x) ANewArray n b u is
 
-pub stop_189 : (pool : Pool) (pc at : ℕ) (bytes : List ℕ) (n : ℕ) → operand u2 at bytes ≡ Err n → judged (operands_of pool 189 pc) at bytes ≡ Err n
+pub stop_anewarray : (pool : Pool) (pc at : ℕ) (bytes : List ℕ) (n : ℕ) → operand u2 at bytes ≡ Err n → judged (operands_of pool opcode.ANEWARRAY pc) at bytes ≡ Err n
 unfolding operands_of
-stop_189 pool pc at bytes n e = judged_stops u2 (λ (v : Placed ℕ). given cause.CODE_SHAPE (class_of pool v.value) (λ (y : (List ℕ)). checked (ANewArray y) (class_or_array_numbers y))) at bytes n e
+stop_anewarray pool pc at bytes n e = judged_stops u2 (λ (v : Placed ℕ). given cause.CODE_SHAPE (class_of pool v.value) (λ (y : (List ℕ)). checked (ANewArray y) (class_or_array_numbers y))) at bytes n e
 
-pub row_192 : (pool : Pool) (pc at : ℕ) (bytes : List ℕ) (p x b : ℕ) (u : List ℕ) (m : (List ℕ)) → operand u2 at bytes ≡ Ok (record { at = p; value = x }, b, u) → named (class_or_array_numbers) (class_of pool x) ≡ Ok m → judged (operands_of pool 192 pc) at bytes ≡ Ok (CheckCast m, b, u)
+pub row_checkcast : (pool : Pool) (pc at : ℕ) (bytes : List ℕ) (p x b : ℕ) (u : List ℕ) (m : (List ℕ)) → operand u2 at bytes ≡ Ok (record { at = p; value = x }, b, u) → named (class_or_array_numbers) (class_of pool x) ≡ Ok m → judged (operands_of pool opcode.CHECKCAST pc) at bytes ≡ Ok (CheckCast m, b, u)
 unfolding operands_of
-row_192 pool pc at bytes p x b u m e is = judged_after u2 (λ (v : Placed ℕ). given cause.CODE_SHAPE (class_of pool v.value) (λ (y : (List ℕ)). checked (CheckCast y) (class_or_array_numbers y))) at bytes (record { at = p; value = x }, b, u) e ∙ given_ok (class_or_array_numbers) (class_of pool x) CheckCast m b u is
+row_checkcast pool pc at bytes p x b u m e is = judged_after u2 (λ (v : Placed ℕ). given cause.CODE_SHAPE (class_of pool v.value) (λ (y : (List ℕ)). checked (CheckCast y) (class_or_array_numbers y))) at bytes (record { at = p; value = x }, b, u) e ∙ given_ok (class_or_array_numbers) (class_of pool x) CheckCast m b u is
 
-pub refused_192 : (pool : Pool) (pc at : ℕ) (bytes : List ℕ) (p x b : ℕ) (u : List ℕ) (n : ℕ) → operand u2 at bytes ≡ Ok (record { at = p; value = x }, b, u) → named (class_or_array_numbers) (class_of pool x) ≡ Err n → judged (operands_of pool 192 pc) at bytes ≡ Err n
+pub refused_checkcast : (pool : Pool) (pc at : ℕ) (bytes : List ℕ) (p x b : ℕ) (u : List ℕ) (n : ℕ) → operand u2 at bytes ≡ Ok (record { at = p; value = x }, b, u) → named (class_or_array_numbers) (class_of pool x) ≡ Err n → judged (operands_of pool opcode.CHECKCAST pc) at bytes ≡ Err n
 unfolding operands_of
-refused_192 pool pc at bytes p x b u n e is = judged_after u2 (λ (v : Placed ℕ). given cause.CODE_SHAPE (class_of pool v.value) (λ (y : (List ℕ)). checked (CheckCast y) (class_or_array_numbers y))) at bytes (record { at = p; value = x }, b, u) e ∙ given_err (class_or_array_numbers) (class_of pool x) CheckCast n b u is
+refused_checkcast pool pc at bytes p x b u n e is = judged_after u2 (λ (v : Placed ℕ). given cause.CODE_SHAPE (class_of pool v.value) (λ (y : (List ℕ)). checked (CheckCast y) (class_or_array_numbers y))) at bytes (record { at = p; value = x }, b, u) e ∙ given_err (class_or_array_numbers) (class_of pool x) CheckCast n b u is
 
-pub stop_192 : (pool : Pool) (pc at : ℕ) (bytes : List ℕ) (n : ℕ) → operand u2 at bytes ≡ Err n → judged (operands_of pool 192 pc) at bytes ≡ Err n
+pub stop_checkcast : (pool : Pool) (pc at : ℕ) (bytes : List ℕ) (n : ℕ) → operand u2 at bytes ≡ Err n → judged (operands_of pool opcode.CHECKCAST pc) at bytes ≡ Err n
 unfolding operands_of
-stop_192 pool pc at bytes n e = judged_stops u2 (λ (v : Placed ℕ). given cause.CODE_SHAPE (class_of pool v.value) (λ (y : (List ℕ)). checked (CheckCast y) (class_or_array_numbers y))) at bytes n e
+stop_checkcast pool pc at bytes n e = judged_stops u2 (λ (v : Placed ℕ). given cause.CODE_SHAPE (class_of pool v.value) (λ (y : (List ℕ)). checked (CheckCast y) (class_or_array_numbers y))) at bytes n e
 
-pub row_193 : (pool : Pool) (pc at : ℕ) (bytes : List ℕ) (p x b : ℕ) (u : List ℕ) (m : (List ℕ)) → operand u2 at bytes ≡ Ok (record { at = p; value = x }, b, u) → named (class_or_array_numbers) (class_of pool x) ≡ Ok m → judged (operands_of pool 193 pc) at bytes ≡ Ok (InstanceOf m, b, u)
+pub row_instanceof : (pool : Pool) (pc at : ℕ) (bytes : List ℕ) (p x b : ℕ) (u : List ℕ) (m : (List ℕ)) → operand u2 at bytes ≡ Ok (record { at = p; value = x }, b, u) → named (class_or_array_numbers) (class_of pool x) ≡ Ok m → judged (operands_of pool opcode.INSTANCEOF pc) at bytes ≡ Ok (InstanceOf m, b, u)
 unfolding operands_of
-row_193 pool pc at bytes p x b u m e is = judged_after u2 (λ (v : Placed ℕ). given cause.CODE_SHAPE (class_of pool v.value) (λ (y : (List ℕ)). checked (InstanceOf y) (class_or_array_numbers y))) at bytes (record { at = p; value = x }, b, u) e ∙ given_ok (class_or_array_numbers) (class_of pool x) InstanceOf m b u is
+row_instanceof pool pc at bytes p x b u m e is = judged_after u2 (λ (v : Placed ℕ). given cause.CODE_SHAPE (class_of pool v.value) (λ (y : (List ℕ)). checked (InstanceOf y) (class_or_array_numbers y))) at bytes (record { at = p; value = x }, b, u) e ∙ given_ok (class_or_array_numbers) (class_of pool x) InstanceOf m b u is
 
-pub refused_193 : (pool : Pool) (pc at : ℕ) (bytes : List ℕ) (p x b : ℕ) (u : List ℕ) (n : ℕ) → operand u2 at bytes ≡ Ok (record { at = p; value = x }, b, u) → named (class_or_array_numbers) (class_of pool x) ≡ Err n → judged (operands_of pool 193 pc) at bytes ≡ Err n
+pub refused_instanceof : (pool : Pool) (pc at : ℕ) (bytes : List ℕ) (p x b : ℕ) (u : List ℕ) (n : ℕ) → operand u2 at bytes ≡ Ok (record { at = p; value = x }, b, u) → named (class_or_array_numbers) (class_of pool x) ≡ Err n → judged (operands_of pool opcode.INSTANCEOF pc) at bytes ≡ Err n
 unfolding operands_of
-refused_193 pool pc at bytes p x b u n e is = judged_after u2 (λ (v : Placed ℕ). given cause.CODE_SHAPE (class_of pool v.value) (λ (y : (List ℕ)). checked (InstanceOf y) (class_or_array_numbers y))) at bytes (record { at = p; value = x }, b, u) e ∙ given_err (class_or_array_numbers) (class_of pool x) InstanceOf n b u is
+refused_instanceof pool pc at bytes p x b u n e is = judged_after u2 (λ (v : Placed ℕ). given cause.CODE_SHAPE (class_of pool v.value) (λ (y : (List ℕ)). checked (InstanceOf y) (class_or_array_numbers y))) at bytes (record { at = p; value = x }, b, u) e ∙ given_err (class_or_array_numbers) (class_of pool x) InstanceOf n b u is
 
-pub stop_193 : (pool : Pool) (pc at : ℕ) (bytes : List ℕ) (n : ℕ) → operand u2 at bytes ≡ Err n → judged (operands_of pool 193 pc) at bytes ≡ Err n
+pub stop_instanceof : (pool : Pool) (pc at : ℕ) (bytes : List ℕ) (n : ℕ) → operand u2 at bytes ≡ Err n → judged (operands_of pool opcode.INSTANCEOF pc) at bytes ≡ Err n
 unfolding operands_of
-stop_193 pool pc at bytes n e = judged_stops u2 (λ (v : Placed ℕ). given cause.CODE_SHAPE (class_of pool v.value) (λ (y : (List ℕ)). checked (InstanceOf y) (class_or_array_numbers y))) at bytes n e
+stop_instanceof pool pc at bytes n e = judged_stops u2 (λ (v : Placed ℕ). given cause.CODE_SHAPE (class_of pool v.value) (λ (y : (List ℕ)). checked (InstanceOf y) (class_or_array_numbers y))) at bytes n e
 
-pub row_190 : (pool : Pool) (pc at : ℕ) (bytes : List ℕ) → judged (operands_of pool 190 pc) at bytes ≡ Ok (ArrayLength, at, bytes)
+pub row_arraylength : (pool : Pool) (pc at : ℕ) (bytes : List ℕ) → judged (operands_of pool opcode.ARRAYLENGTH pc) at bytes ≡ Ok (ArrayLength, at, bytes)
 unfolding operands_of
-row_190 pool pc at bytes = judged_plain ArrayLength at bytes
+row_arraylength pool pc at bytes = judged_plain ArrayLength at bytes
 
-pub row_191 : (pool : Pool) (pc at : ℕ) (bytes : List ℕ) → judged (operands_of pool 191 pc) at bytes ≡ Ok (Throw, at, bytes)
+pub row_athrow : (pool : Pool) (pc at : ℕ) (bytes : List ℕ) → judged (operands_of pool opcode.ATHROW pc) at bytes ≡ Ok (Throw, at, bytes)
 unfolding operands_of
-row_191 pool pc at bytes = judged_plain Throw at bytes
+row_athrow pool pc at bytes = judged_plain Throw at bytes
 
-pub row_194 : (pool : Pool) (pc at : ℕ) (bytes : List ℕ) → judged (operands_of pool 194 pc) at bytes ≡ Ok (MonitorEnter, at, bytes)
+pub row_monitorenter : (pool : Pool) (pc at : ℕ) (bytes : List ℕ) → judged (operands_of pool opcode.MONITORENTER pc) at bytes ≡ Ok (MonitorEnter, at, bytes)
 unfolding operands_of
-row_194 pool pc at bytes = judged_plain MonitorEnter at bytes
+row_monitorenter pool pc at bytes = judged_plain MonitorEnter at bytes
 
-pub row_195 : (pool : Pool) (pc at : ℕ) (bytes : List ℕ) → judged (operands_of pool 195 pc) at bytes ≡ Ok (MonitorExit, at, bytes)
+pub row_monitorexit : (pool : Pool) (pc at : ℕ) (bytes : List ℕ) → judged (operands_of pool opcode.MONITOREXIT pc) at bytes ≡ Ok (MonitorExit, at, bytes)
 unfolding operands_of
-row_195 pool pc at bytes = judged_plain MonitorExit at bytes
+row_monitorexit pool pc at bytes = judged_plain MonitorExit at bytes
 
 element_ok : (o : Option Primitive) (element : Primitive) (at : ℕ) (bytes : List ℕ) → Some element ≡ o → judged (given cause.CODE_SHAPE o (λ (element : Primitive). plain (NewArray element))) at bytes ≡ Ok (NewArray element, at, bytes)
 element_ok o element at bytes e = ap (λ (p : Option Primitive). judged (given cause.CODE_SHAPE p (λ (element : Primitive). plain (NewArray element))) at bytes) (sym e) ∙ judged_plain (NewArray element) at bytes
 
-element_none : (o : Option Primitive) (at : ℕ) (bytes : List ℕ) → None ≡ o → judged (given cause.CODE_SHAPE o (λ (element : Primitive). plain (NewArray element))) at bytes ≡ Err 11
+element_none : (o : Option Primitive) (at : ℕ) (bytes : List ℕ) → None ≡ o → judged (given cause.CODE_SHAPE o (λ (element : Primitive). plain (NewArray element))) at bytes ≡ Err cause.CODE_SHAPE
 unfolding judged read
 element_none o at bytes e = ap (λ (p : Option Primitive). judged (given cause.CODE_SHAPE p (λ (element : Primitive). plain (NewArray element))) at bytes) (sym e)
 
-pub row_188 : (pool : Pool) (pc at : ℕ) (bytes : List ℕ) (p x b : ℕ) (u : List ℕ) (element : Primitive) → operand u1 at bytes ≡ Ok (record { at = p; value = x }, b, u) → Some element ≡ element_of x → judged (operands_of pool 188 pc) at bytes ≡ Ok (NewArray element, b, u)
+pub row_newarray : (pool : Pool) (pc at : ℕ) (bytes : List ℕ) (p x b : ℕ) (u : List ℕ) (element : Primitive) → operand u1 at bytes ≡ Ok (record { at = p; value = x }, b, u) → Some element ≡ element_of x → judged (operands_of pool opcode.NEWARRAY pc) at bytes ≡ Ok (NewArray element, b, u)
 unfolding operands_of
-row_188 pool pc at bytes p x b u element e is = judged_after u1 (λ (v : Placed ℕ). given cause.CODE_SHAPE (element_of v.value) (λ (element : Primitive). plain (NewArray element))) at bytes (record { at = p; value = x }, b, u) e ∙ element_ok (element_of x) element b u is
+row_newarray pool pc at bytes p x b u element e is = judged_after u1 (λ (v : Placed ℕ). given cause.CODE_SHAPE (element_of v.value) (λ (element : Primitive). plain (NewArray element))) at bytes (record { at = p; value = x }, b, u) e ∙ element_ok (element_of x) element b u is
 
-pub refused_188 : (pool : Pool) (pc at : ℕ) (bytes : List ℕ) (p x b : ℕ) (u : List ℕ) → operand u1 at bytes ≡ Ok (record { at = p; value = x }, b, u) → None ≡ element_of x → judged (operands_of pool 188 pc) at bytes ≡ Err 11
+pub refused_newarray : (pool : Pool) (pc at : ℕ) (bytes : List ℕ) (p x b : ℕ) (u : List ℕ) → operand u1 at bytes ≡ Ok (record { at = p; value = x }, b, u) → None ≡ element_of x → judged (operands_of pool opcode.NEWARRAY pc) at bytes ≡ Err cause.CODE_SHAPE
 unfolding operands_of
-refused_188 pool pc at bytes p x b u e is = judged_after u1 (λ (v : Placed ℕ). given cause.CODE_SHAPE (element_of v.value) (λ (element : Primitive). plain (NewArray element))) at bytes (record { at = p; value = x }, b, u) e ∙ element_none (element_of x) b u is
+refused_newarray pool pc at bytes p x b u e is = judged_after u1 (λ (v : Placed ℕ). given cause.CODE_SHAPE (element_of v.value) (λ (element : Primitive). plain (NewArray element))) at bytes (record { at = p; value = x }, b, u) e ∙ element_none (element_of x) b u is
 
-pub stop_188 : (pool : Pool) (pc at : ℕ) (bytes : List ℕ) (n : ℕ) → operand u1 at bytes ≡ Err n → judged (operands_of pool 188 pc) at bytes ≡ Err n
+pub stop_newarray : (pool : Pool) (pc at : ℕ) (bytes : List ℕ) (n : ℕ) → operand u1 at bytes ≡ Err n → judged (operands_of pool opcode.NEWARRAY pc) at bytes ≡ Err n
 unfolding operands_of
-stop_188 pool pc at bytes n e = judged_stops u1 (λ (v : Placed ℕ). given cause.CODE_SHAPE (element_of v.value) (λ (element : Primitive). plain (NewArray element))) at bytes n e
+stop_newarray pool pc at bytes n e = judged_stops u1 (λ (v : Placed ℕ). given cause.CODE_SHAPE (element_of v.value) (λ (element : Primitive). plain (NewArray element))) at bytes n e
 
 abbrev listed : ℕ → Bool
-listed k = list_any (λ n. n == k) (187 ∷ 188 ∷ 189 ∷ 190 ∷ 191 ∷ 192 ∷ 193 ∷ 194 ∷ 195 ∷ [])
+listed k = list_any (λ n. n == k) (opcode.NEW ∷ opcode.NEWARRAY ∷ opcode.ANEWARRAY ∷ opcode.ARRAYLENGTH ∷ opcode.ATHROW ∷ opcode.CHECKCAST ∷ opcode.INSTANCEOF ∷ opcode.MONITORENTER ∷ opcode.MONITOREXIT ∷ [])
 
-sieve : (pool : Pool) → all_in 186 10 (λ k. not (covers (rows pool) k) || listed k) ≡ true
+sieve : (pool : Pool) → all_in (opcode.INVOKEINTERFACE + 1) (opcode.MONITOREXIT - opcode.INVOKEINTERFACE) (λ k. not (covers (rows pool) k) || listed k) ≡ true
 unfolding all_in
 sieve pool = refl
 
-not_listed : (code : ℕ) → code ≢ 187 → code ≢ 188 → code ≢ 189 → code ≢ 190 → code ≢ 191 → code ≢ 192 → code ≢ 193 → code ≢ 194 → code ≢ 195 → listed code ≡ false
-not_listed code n187 n188 n189 n190 n191 n192 n193 n194 n195 = rw (not_it 187 code n187, not_it 188 code n188, not_it 189 code n189, not_it 190 code n190, not_it 191 code n191, not_it 192 code n192, not_it 193 code n193, not_it 194 code n194, not_it 195 code n195) refl
+not_listed : (code : ℕ) → code ≢ opcode.NEW → code ≢ opcode.NEWARRAY → code ≢ opcode.ANEWARRAY → code ≢ opcode.ARRAYLENGTH → code ≢ opcode.ATHROW → code ≢ opcode.CHECKCAST → code ≢ opcode.INSTANCEOF → code ≢ opcode.MONITORENTER → code ≢ opcode.MONITOREXIT → listed code ≡ false
+not_listed code not_new not_newarray not_anewarray not_arraylength not_athrow not_checkcast not_instanceof not_monitorenter not_monitorexit = rw (not_it opcode.NEW code not_new, not_it opcode.NEWARRAY code not_newarray, not_it opcode.ANEWARRAY code not_anewarray, not_it opcode.ARRAYLENGTH code not_arraylength, not_it opcode.ATHROW code not_athrow, not_it opcode.CHECKCAST code not_checkcast, not_it opcode.INSTANCEOF code not_instanceof, not_it opcode.MONITORENTER code not_monitorenter, not_it opcode.MONITOREXIT code not_monitorexit) refl
 
-pub others : (code : ℕ) (pool : Pool) (pc at : ℕ) (bytes : List ℕ) → 186 ≤ code → code ≤ 195 → code ≢ 187 → code ≢ 188 → code ≢ 189 → code ≢ 190 → code ≢ 191 → code ≢ 192 → code ≢ 193 → code ≢ 194 → code ≢ 195 → judged (operands_of pool code pc) at bytes ≡ Err 10
-others code pool pc at bytes low high n187 n188 n189 n190 n191 n192 n193 n194 n195 =
-    refused_opcode pool code pc at bytes (sieved 186 10 (covers (rows pool)) listed (sieve pool) code low (omega arith) (not_listed code n187 n188 n189 n190 n191 n192 n193 n194 n195))
+pub others : (code : ℕ) (pool : Pool) (pc at : ℕ) (bytes : List ℕ) → opcode.INVOKEINTERFACE < code → code ≤ opcode.MONITOREXIT → code ≢ opcode.NEW → code ≢ opcode.NEWARRAY → code ≢ opcode.ANEWARRAY → code ≢ opcode.ARRAYLENGTH → code ≢ opcode.ATHROW → code ≢ opcode.CHECKCAST → code ≢ opcode.INSTANCEOF → code ≢ opcode.MONITORENTER → code ≢ opcode.MONITOREXIT → judged (operands_of pool code pc) at bytes ≡ Err cause.OPCODE
+others code pool pc at bytes low high not_new not_newarray not_anewarray not_arraylength not_athrow not_checkcast not_instanceof not_monitorenter not_monitorexit =
+    refused_opcode pool code pc at bytes (sieved (opcode.INVOKEINTERFACE + 1) (opcode.MONITOREXIT - opcode.INVOKEINTERFACE) (covers (rows pool)) listed (sieve pool) code low (omega arith) (not_listed code not_new not_newarray not_anewarray not_arraylength not_athrow not_checkcast not_instanceof not_monitorenter not_monitorexit))
 
-pub ruleset arrays = (row_188, refused_188, stop_188)
+pub ruleset arrays = (row_newarray, refused_newarray, stop_newarray)
 
-pub ruleset objects = (row_187, refused_187, stop_187, row_189, refused_189, stop_189, row_192, refused_192, stop_192, row_193, refused_193, stop_193, row_190, row_191, row_194, row_195)
+pub ruleset objects = (row_new, refused_new, stop_new, row_anewarray, refused_anewarray, stop_anewarray, row_checkcast, refused_checkcast, stop_checkcast, row_instanceof, refused_instanceof, stop_instanceof, row_arraylength, row_athrow, row_monitorenter, row_monitorexit)

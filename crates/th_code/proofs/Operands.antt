@@ -28,14 +28,14 @@ pub taken_ok : {A : Type 0} (form : Form A) (at : ℕ) (bytes : List ℕ) (found
 unfolding operand
 taken_ok form at bytes found e = rw e refl
 
-stopped : {A : Type 0} (form : Form A) (at : ℕ) (bytes : List ℕ) (flaw : Flaw) → read form at bytes ≡ Err flaw → flaw.number ≡ cause.TRUNCATED → operand form at bytes ≡ Err 11
+stopped : {A : Type 0} (form : Form A) (at : ℕ) (bytes : List ℕ) (flaw : Flaw) → read form at bytes ≡ Err flaw → flaw.number ≡ cause.TRUNCATED → operand form at bytes ≡ Err cause.CODE_SHAPE
 unfolding operand
 stopped form at bytes flaw e is = rw (e, is) refl
 
-pub number_stopped : (n at : ℕ) (bytes : List ℕ) (flaw : Flaw) → read (number n) at bytes ≡ Err flaw → operand (number n) at bytes ≡ Err 11
+pub number_stopped : (n at : ℕ) (bytes : List ℕ) (flaw : Flaw) → read (number n) at bytes ≡ Err flaw → operand (number n) at bytes ≡ Err cause.CODE_SHAPE
 number_stopped n at bytes flaw e = stopped (number n) at bytes flaw e (number_truncated n at bytes flaw e)
 
-pub run_stopped : (n at : ℕ) (bytes : List ℕ) (flaw : Flaw) → read (run n) at bytes ≡ Err flaw → operand (run n) at bytes ≡ Err 11
+pub run_stopped : (n at : ℕ) (bytes : List ℕ) (flaw : Flaw) → read (run n) at bytes ≡ Err flaw → operand (run n) at bytes ≡ Err cause.CODE_SHAPE
 run_stopped n at bytes flaw e = stopped (run n) at bytes flaw e (run_truncated n at bytes flaw e)
 
 pub ruleset taken = (taken_ok, number_stopped, run_stopped)

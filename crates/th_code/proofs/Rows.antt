@@ -61,11 +61,11 @@ among_none (one ∷ rows) code pc at e =
     let parts = neither (nat_le one.first code && nat_le code one.last) (covers rows code) e in
     skips one code pc (among rows code pc at) parts.0 ∙ among_none rows code pc at parts.1
 
-pub wrong_judged : (pc at : ℕ) (bytes : List ℕ) → judged (wrong pc cause.OPCODE) at bytes ≡ Err 10
+pub wrong_judged : (pc at : ℕ) (bytes : List ℕ) → judged (wrong pc cause.OPCODE) at bytes ≡ Err cause.OPCODE
 unfolding judged read
 wrong_judged pc at bytes = refl
 
-pub refused_opcode : (pool : Pool) (code pc at : ℕ) (bytes : List ℕ) → covers (rows pool) code ≡ false → judged (operands_of pool code pc) at bytes ≡ Err 10
+pub refused_opcode : (pool : Pool) (code pc at : ℕ) (bytes : List ℕ) → covers (rows pool) code ≡ false → judged (operands_of pool code pc) at bytes ≡ Err cause.OPCODE
 unfolding operands_of
 refused_opcode pool code pc at bytes e = ap (λ (form : Form Spelled). judged form at bytes) (among_none (rows pool) code pc pc e) ∙ wrong_judged pc at bytes
 

@@ -20,7 +20,7 @@ demanded : (test : Bool) (place : ℕ) (g : Unit {0} → Form Spelled) (at : ℕ
 unfolding judged
 demanded test place g at bytes holds = ap judge (read_demand test place cause.CODE_SHAPE g at bytes holds)
 
-not_met : (test : Bool) (place : ℕ) (g : Unit {0} → Form Spelled) (at : ℕ) (bytes : List ℕ) → test ≡ false → judged (demand test place cause.CODE_SHAPE >>= g) at bytes ≡ Err 11
+not_met : (test : Bool) (place : ℕ) (g : Unit {0} → Form Spelled) (at : ℕ) (bytes : List ℕ) → test ≡ false → judged (demand test place cause.CODE_SHAPE >>= g) at bytes ≡ Err cause.CODE_SHAPE
 unfolding judged
 not_met test place g at bytes fails = ap judge (read_refusal test place cause.CODE_SHAPE g at bytes fails)
 
@@ -75,7 +75,7 @@ pub table_stops_3 : (pc at : ℕ) (bytes : List ℕ) (s : Placed (List ℕ)) (b0
 unfolding table_padded table_other table_low table_high table_counted table_made
 table_stops_3 pc at bytes s b0 u0 other b1 u1 low b2 u2 n e0 e1 e2 f = judged_after (padding pc) (table_padded pc) at bytes (s, b0, u0) e0 ∙ judged_after i4 (table_other pc) b0 u0 (other, b1, u1) e1 ∙ judged_after i4 (table_low pc other) b1 u1 (low, b2, u2) e2 ∙ judged_stops i4 (table_high pc other low) b2 u2 n f
 
-pub table_unordered : (pc at : ℕ) (bytes : List ℕ) (s : Placed (List ℕ)) (b0 : ℕ) (u0 : List ℕ) (other : ℤ) (b1 : ℕ) (u1 : List ℕ) (low : ℤ) (b2 : ℕ) (u2 : List ℕ) (high : ℤ) (b3 : ℕ) (u3 : List ℕ) → operand (run (3 - pc % 4)) at bytes ≡ Ok (s, b0, u0) → operand i4 b0 u0 ≡ Ok (other, b1, u1) → operand i4 b1 u1 ≡ Ok (low, b2, u2) → operand i4 b2 u2 ≡ Ok (high, b3, u3) → int_le low high ≡ false → judged (table_switch pc) at bytes ≡ Err 11
+pub table_unordered : (pc at : ℕ) (bytes : List ℕ) (s : Placed (List ℕ)) (b0 : ℕ) (u0 : List ℕ) (other : ℤ) (b1 : ℕ) (u1 : List ℕ) (low : ℤ) (b2 : ℕ) (u2 : List ℕ) (high : ℤ) (b3 : ℕ) (u3 : List ℕ) → operand (run (3 - pc % 4)) at bytes ≡ Ok (s, b0, u0) → operand i4 b0 u0 ≡ Ok (other, b1, u1) → operand i4 b1 u1 ≡ Ok (low, b2, u2) → operand i4 b2 u2 ≡ Ok (high, b3, u3) → int_le low high ≡ false → judged (table_switch pc) at bytes ≡ Err cause.CODE_SHAPE
 unfolding table_padded table_other table_low table_high table_counted table_made
 table_unordered pc at bytes s b0 u0 other b1 u1 low b2 u2 high b3 u3 e0 e1 e2 e3 f = judged_after (padding pc) (table_padded pc) at bytes (s, b0, u0) e0 ∙ judged_after i4 (table_other pc) b0 u0 (other, b1, u1) e1 ∙ judged_after i4 (table_low pc other) b1 u1 (low, b2, u2) e2 ∙ judged_after i4 (table_high pc other low) b2 u2 (high, b3, u3) e3 ∙ not_met (int_le low high) pc (table_counted pc other low high) b3 u3 f
 
@@ -128,7 +128,7 @@ pub lookup_stops_2 : (pc at : ℕ) (bytes : List ℕ) (s : Placed (List ℕ)) (b
 unfolding lookup_padded lookup_other lookup_count lookup_counted lookup_made
 lookup_stops_2 pc at bytes s b0 u0 other b1 u1 n e0 e1 f = judged_after (padding pc) (lookup_padded pc) at bytes (s, b0, u0) e0 ∙ judged_after i4 (lookup_other pc) b0 u0 (other, b1, u1) e1 ∙ judged_stops u4 (lookup_count pc other) b1 u1 n f
 
-pub lookup_negative : (pc at : ℕ) (bytes : List ℕ) (s : Placed (List ℕ)) (b0 : ℕ) (u0 : List ℕ) (other : ℤ) (b1 : ℕ) (u1 : List ℕ) (p count b2 : ℕ) (u2 : List ℕ) → operand (run (3 - pc % 4)) at bytes ≡ Ok (s, b0, u0) → operand i4 b0 u0 ≡ Ok (other, b1, u1) → operand u4 b1 u1 ≡ Ok (record { at = p; value = count }, b2, u2) → nat_lt count (2 ^ 31) ≡ false → judged (lookup_switch pc) at bytes ≡ Err 11
+pub lookup_negative : (pc at : ℕ) (bytes : List ℕ) (s : Placed (List ℕ)) (b0 : ℕ) (u0 : List ℕ) (other : ℤ) (b1 : ℕ) (u1 : List ℕ) (p count b2 : ℕ) (u2 : List ℕ) → operand (run (3 - pc % 4)) at bytes ≡ Ok (s, b0, u0) → operand i4 b0 u0 ≡ Ok (other, b1, u1) → operand u4 b1 u1 ≡ Ok (record { at = p; value = count }, b2, u2) → nat_lt count (2 ^ 31) ≡ false → judged (lookup_switch pc) at bytes ≡ Err cause.CODE_SHAPE
 unfolding lookup_padded lookup_other lookup_count lookup_counted lookup_made
 lookup_negative pc at bytes s b0 u0 other b1 u1 p count b2 u2 e0 e1 e2 f = judged_after (padding pc) (lookup_padded pc) at bytes (s, b0, u0) e0 ∙ judged_after i4 (lookup_other pc) b0 u0 (other, b1, u1) e1 ∙ judged_after u4 (lookup_count pc other) b1 u1 (record { at = p; value = count }, b2, u2) e2 ∙ not_met (nat_lt count (2 ^ 31)) pc (lookup_counted pc other count) b2 u2 f
 
@@ -142,11 +142,11 @@ lookup_end pc other raw ps o b u e up f =
     let ascends : keys_ascend raw ≡ true = rising pc raw ∙ ap (rising_after None) e ∙ up in
     rw ascends (judged_plain (LookupSwitch (pairs_of pc raw) (target pc other)) b u ∙ rw (e, f) refl)
 
-refused_judged : (at : ℕ) (bytes : List ℕ) (i : Instr) → judged (checked i (cause.CODE_SHAPE ∷ [])) at bytes ≡ Err 11
+refused_judged : (at : ℕ) (bytes : List ℕ) (i : Instr) → judged (checked i (cause.CODE_SHAPE ∷ [])) at bytes ≡ Err cause.CODE_SHAPE
 unfolding judged read
 refused_judged at bytes i = refl
 
-lookup_falls : (pc : ℕ) (other : ℤ) (raw : List (ℤ × ℤ)) (ps : List (ℤ × ℕ)) (b : ℕ) (u : List ℕ) → pairs_of pc raw ≡ ps → rising_after None ps ≡ false → judged (lookup_made pc other raw) b u ≡ Err 11
+lookup_falls : (pc : ℕ) (other : ℤ) (raw : List (ℤ × ℤ)) (ps : List (ℤ × ℕ)) (b : ℕ) (u : List ℕ) → pairs_of pc raw ≡ ps → rising_after None ps ≡ false → judged (lookup_made pc other raw) b u ≡ Err cause.CODE_SHAPE
 unfolding lookup_made pairs_of
 lookup_falls pc other raw ps b u e up =
     let ascends : keys_ascend raw ≡ false = rising pc raw ∙ ap (rising_after None) e ∙ up in
@@ -158,13 +158,13 @@ lookup_cases pc other count b2 u2 ps o b3 u3 f up is =
     let seen = seen_of (pairs_of pc) (operand (times count match_pair) b2 u2) ps b3 u3 f in
     judged_after (times count match_pair) (lookup_made pc other) b2 u2 (seen.0, b3, u3) seen.1 ∙ lookup_end pc other seen.0 ps o b3 u3 seen.2 up is
 
-lookup_unsorted : (pc : ℕ) (other : ℤ) (count b2 : ℕ) (u2 : List ℕ) (ps : List (ℤ × ℕ)) (b3 : ℕ) (u3 : List ℕ) → mapped (pairs_of pc) (operand (times count match_pair) b2 u2) ≡ Ok (ps, b3, u3) → rising_after None ps ≡ false → judged (lookup_counted pc other count tt) b2 u2 ≡ Err 11
+lookup_unsorted : (pc : ℕ) (other : ℤ) (count b2 : ℕ) (u2 : List ℕ) (ps : List (ℤ × ℕ)) (b3 : ℕ) (u3 : List ℕ) → mapped (pairs_of pc) (operand (times count match_pair) b2 u2) ≡ Ok (ps, b3, u3) → rising_after None ps ≡ false → judged (lookup_counted pc other count tt) b2 u2 ≡ Err cause.CODE_SHAPE
 unfolding lookup_counted
 lookup_unsorted pc other count b2 u2 ps b3 u3 f up =
     let seen = seen_of (pairs_of pc) (operand (times count match_pair) b2 u2) ps b3 u3 f in
     judged_after (times count match_pair) (lookup_made pc other) b2 u2 (seen.0, b3, u3) seen.1 ∙ lookup_falls pc other seen.0 ps b3 u3 seen.2 up
 
-pub lookup_fallen : (pc at : ℕ) (bytes : List ℕ) (s : Placed (List ℕ)) (b0 : ℕ) (u0 : List ℕ) (other : ℤ) (b1 : ℕ) (u1 : List ℕ) (p count b2 : ℕ) (u2 : List ℕ) (ps : List (ℤ × ℕ)) (b3 : ℕ) (u3 : List ℕ) → operand (run (3 - pc % 4)) at bytes ≡ Ok (s, b0, u0) → operand i4 b0 u0 ≡ Ok (other, b1, u1) → operand u4 b1 u1 ≡ Ok (record { at = p; value = count }, b2, u2) → nat_lt count (2 ^ 31) ≡ true → mapped (pairs_of pc) (operand (times count match_pair) b2 u2) ≡ Ok (ps, b3, u3) → rising_after None ps ≡ false → judged (lookup_switch pc) at bytes ≡ Err 11
+pub lookup_fallen : (pc at : ℕ) (bytes : List ℕ) (s : Placed (List ℕ)) (b0 : ℕ) (u0 : List ℕ) (other : ℤ) (b1 : ℕ) (u1 : List ℕ) (p count b2 : ℕ) (u2 : List ℕ) (ps : List (ℤ × ℕ)) (b3 : ℕ) (u3 : List ℕ) → operand (run (3 - pc % 4)) at bytes ≡ Ok (s, b0, u0) → operand i4 b0 u0 ≡ Ok (other, b1, u1) → operand u4 b1 u1 ≡ Ok (record { at = p; value = count }, b2, u2) → nat_lt count (2 ^ 31) ≡ true → mapped (pairs_of pc) (operand (times count match_pair) b2 u2) ≡ Ok (ps, b3, u3) → rising_after None ps ≡ false → judged (lookup_switch pc) at bytes ≡ Err cause.CODE_SHAPE
 unfolding lookup_padded lookup_other lookup_count lookup_counted lookup_made
 lookup_fallen pc at bytes s b0 u0 other b1 u1 p count b2 u2 ps b3 u3 e0 e1 e2 o f up = judged_after (padding pc) (lookup_padded pc) at bytes (s, b0, u0) e0 ∙ judged_after i4 (lookup_other pc) b0 u0 (other, b1, u1) e1 ∙ judged_after u4 (lookup_count pc other) b1 u1 (record { at = p; value = count }, b2, u2) e2 ∙ demanded (nat_lt count (2 ^ 31)) pc (lookup_counted pc other count) b2 u2 o ∙ lookup_unsorted pc other count b2 u2 ps b3 u3 f up
 

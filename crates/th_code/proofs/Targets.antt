@@ -3,6 +3,7 @@ use Rattle.std.proofs.Common.{◌≡◌, ◌≢◌, ℕ, ◌+◌, ◌<◌, ◌�
 use Rattle.std.specs.Prelude.{ℤ, pos, negsuc, ◌+ℤ◌, ◌<ℤ◌, min}
 use Rattle.std.specs.Int.{w16, cast_signed}
 use Rattle.std.proofs.lemmas.Int.{ints}
+use Rattle.th_syntax.specs.declared.opcode.TheConstants as opcode
 use Rattle.th_base.specs.declared.operation.Relation.TheVariants.{Eq, Ne, Lt, Ge, Gt, Le}
 use Rattle.th_syntax.specs.declared.instr.Instr.{Instr}
 use Rattle.th_syntax.specs.declared.instr.Instr.TheVariants.{IfZero, IfInts, IfSame, IfOther, IfNull, IfNotNull, Goto}
@@ -49,95 +50,95 @@ jumped pc make at bytes x b u t e is =
     judged_after u2 (λ (by : Placed ℕ). plain (make (target pc (cast_signed w16 by.value)))) at bytes (x, b, u) e
     ∙ judged_plain (make (target pc (cast_signed w16 x.value))) b u ∙ ap (λ (k : ℕ). (let r : Result (Found Instr) ℕ = Ok (make k, b, u) in r)) (sym is)
 
-pub jump_153 : (pool : Pool) (pc at : ℕ) (bytes : List ℕ) (x : Placed ℕ) (b : ℕ) (u : List ℕ) (t : ℕ) → operand u2 at bytes ≡ Ok (x, b, u) → t ≡ target pc (cast_signed w16 x.value) → judged (operands_of pool 153 pc) at bytes ≡ Ok (IfZero Eq t, b, u)
+pub jump_ifeq : (pool : Pool) (pc at : ℕ) (bytes : List ℕ) (x : Placed ℕ) (b : ℕ) (u : List ℕ) (t : ℕ) → operand u2 at bytes ≡ Ok (x, b, u) → t ≡ target pc (cast_signed w16 x.value) → judged (operands_of pool opcode.IFEQ pc) at bytes ≡ Ok (IfZero Eq t, b, u)
 unfolding operands_of
-jump_153 pool pc at bytes x b u t e is = jumped pc (λ k. IfZero Eq k) at bytes x b u t e is
+jump_ifeq pool pc at bytes x b u t e is = jumped pc (λ k. IfZero Eq k) at bytes x b u t e is
 
-pub jump_154 : (pool : Pool) (pc at : ℕ) (bytes : List ℕ) (x : Placed ℕ) (b : ℕ) (u : List ℕ) (t : ℕ) → operand u2 at bytes ≡ Ok (x, b, u) → t ≡ target pc (cast_signed w16 x.value) → judged (operands_of pool 154 pc) at bytes ≡ Ok (IfZero Ne t, b, u)
+pub jump_ifne : (pool : Pool) (pc at : ℕ) (bytes : List ℕ) (x : Placed ℕ) (b : ℕ) (u : List ℕ) (t : ℕ) → operand u2 at bytes ≡ Ok (x, b, u) → t ≡ target pc (cast_signed w16 x.value) → judged (operands_of pool opcode.IFNE pc) at bytes ≡ Ok (IfZero Ne t, b, u)
 unfolding operands_of
-jump_154 pool pc at bytes x b u t e is = jumped pc (λ k. IfZero Ne k) at bytes x b u t e is
+jump_ifne pool pc at bytes x b u t e is = jumped pc (λ k. IfZero Ne k) at bytes x b u t e is
 
-pub jump_155 : (pool : Pool) (pc at : ℕ) (bytes : List ℕ) (x : Placed ℕ) (b : ℕ) (u : List ℕ) (t : ℕ) → operand u2 at bytes ≡ Ok (x, b, u) → t ≡ target pc (cast_signed w16 x.value) → judged (operands_of pool 155 pc) at bytes ≡ Ok (IfZero Lt t, b, u)
+pub jump_iflt : (pool : Pool) (pc at : ℕ) (bytes : List ℕ) (x : Placed ℕ) (b : ℕ) (u : List ℕ) (t : ℕ) → operand u2 at bytes ≡ Ok (x, b, u) → t ≡ target pc (cast_signed w16 x.value) → judged (operands_of pool opcode.IFLT pc) at bytes ≡ Ok (IfZero Lt t, b, u)
 unfolding operands_of
-jump_155 pool pc at bytes x b u t e is = jumped pc (λ k. IfZero Lt k) at bytes x b u t e is
+jump_iflt pool pc at bytes x b u t e is = jumped pc (λ k. IfZero Lt k) at bytes x b u t e is
 
-pub jump_156 : (pool : Pool) (pc at : ℕ) (bytes : List ℕ) (x : Placed ℕ) (b : ℕ) (u : List ℕ) (t : ℕ) → operand u2 at bytes ≡ Ok (x, b, u) → t ≡ target pc (cast_signed w16 x.value) → judged (operands_of pool 156 pc) at bytes ≡ Ok (IfZero Ge t, b, u)
+pub jump_ifge : (pool : Pool) (pc at : ℕ) (bytes : List ℕ) (x : Placed ℕ) (b : ℕ) (u : List ℕ) (t : ℕ) → operand u2 at bytes ≡ Ok (x, b, u) → t ≡ target pc (cast_signed w16 x.value) → judged (operands_of pool opcode.IFGE pc) at bytes ≡ Ok (IfZero Ge t, b, u)
 unfolding operands_of
-jump_156 pool pc at bytes x b u t e is = jumped pc (λ k. IfZero Ge k) at bytes x b u t e is
+jump_ifge pool pc at bytes x b u t e is = jumped pc (λ k. IfZero Ge k) at bytes x b u t e is
 
-pub jump_157 : (pool : Pool) (pc at : ℕ) (bytes : List ℕ) (x : Placed ℕ) (b : ℕ) (u : List ℕ) (t : ℕ) → operand u2 at bytes ≡ Ok (x, b, u) → t ≡ target pc (cast_signed w16 x.value) → judged (operands_of pool 157 pc) at bytes ≡ Ok (IfZero Gt t, b, u)
+pub jump_ifgt : (pool : Pool) (pc at : ℕ) (bytes : List ℕ) (x : Placed ℕ) (b : ℕ) (u : List ℕ) (t : ℕ) → operand u2 at bytes ≡ Ok (x, b, u) → t ≡ target pc (cast_signed w16 x.value) → judged (operands_of pool opcode.IFGT pc) at bytes ≡ Ok (IfZero Gt t, b, u)
 unfolding operands_of
-jump_157 pool pc at bytes x b u t e is = jumped pc (λ k. IfZero Gt k) at bytes x b u t e is
+jump_ifgt pool pc at bytes x b u t e is = jumped pc (λ k. IfZero Gt k) at bytes x b u t e is
 
-pub jump_158 : (pool : Pool) (pc at : ℕ) (bytes : List ℕ) (x : Placed ℕ) (b : ℕ) (u : List ℕ) (t : ℕ) → operand u2 at bytes ≡ Ok (x, b, u) → t ≡ target pc (cast_signed w16 x.value) → judged (operands_of pool 158 pc) at bytes ≡ Ok (IfZero Le t, b, u)
+pub jump_ifle : (pool : Pool) (pc at : ℕ) (bytes : List ℕ) (x : Placed ℕ) (b : ℕ) (u : List ℕ) (t : ℕ) → operand u2 at bytes ≡ Ok (x, b, u) → t ≡ target pc (cast_signed w16 x.value) → judged (operands_of pool opcode.IFLE pc) at bytes ≡ Ok (IfZero Le t, b, u)
 unfolding operands_of
-jump_158 pool pc at bytes x b u t e is = jumped pc (λ k. IfZero Le k) at bytes x b u t e is
+jump_ifle pool pc at bytes x b u t e is = jumped pc (λ k. IfZero Le k) at bytes x b u t e is
 
-pub jump_159 : (pool : Pool) (pc at : ℕ) (bytes : List ℕ) (x : Placed ℕ) (b : ℕ) (u : List ℕ) (t : ℕ) → operand u2 at bytes ≡ Ok (x, b, u) → t ≡ target pc (cast_signed w16 x.value) → judged (operands_of pool 159 pc) at bytes ≡ Ok (IfInts Eq t, b, u)
+pub jump_if_icmpeq : (pool : Pool) (pc at : ℕ) (bytes : List ℕ) (x : Placed ℕ) (b : ℕ) (u : List ℕ) (t : ℕ) → operand u2 at bytes ≡ Ok (x, b, u) → t ≡ target pc (cast_signed w16 x.value) → judged (operands_of pool opcode.IF_ICMPEQ pc) at bytes ≡ Ok (IfInts Eq t, b, u)
 unfolding operands_of
-jump_159 pool pc at bytes x b u t e is = jumped pc (λ k. IfInts Eq k) at bytes x b u t e is
+jump_if_icmpeq pool pc at bytes x b u t e is = jumped pc (λ k. IfInts Eq k) at bytes x b u t e is
 
-pub jump_160 : (pool : Pool) (pc at : ℕ) (bytes : List ℕ) (x : Placed ℕ) (b : ℕ) (u : List ℕ) (t : ℕ) → operand u2 at bytes ≡ Ok (x, b, u) → t ≡ target pc (cast_signed w16 x.value) → judged (operands_of pool 160 pc) at bytes ≡ Ok (IfInts Ne t, b, u)
+pub jump_if_icmpne : (pool : Pool) (pc at : ℕ) (bytes : List ℕ) (x : Placed ℕ) (b : ℕ) (u : List ℕ) (t : ℕ) → operand u2 at bytes ≡ Ok (x, b, u) → t ≡ target pc (cast_signed w16 x.value) → judged (operands_of pool opcode.IF_ICMPNE pc) at bytes ≡ Ok (IfInts Ne t, b, u)
 unfolding operands_of
-jump_160 pool pc at bytes x b u t e is = jumped pc (λ k. IfInts Ne k) at bytes x b u t e is
+jump_if_icmpne pool pc at bytes x b u t e is = jumped pc (λ k. IfInts Ne k) at bytes x b u t e is
 
-pub jump_161 : (pool : Pool) (pc at : ℕ) (bytes : List ℕ) (x : Placed ℕ) (b : ℕ) (u : List ℕ) (t : ℕ) → operand u2 at bytes ≡ Ok (x, b, u) → t ≡ target pc (cast_signed w16 x.value) → judged (operands_of pool 161 pc) at bytes ≡ Ok (IfInts Lt t, b, u)
+pub jump_if_icmplt : (pool : Pool) (pc at : ℕ) (bytes : List ℕ) (x : Placed ℕ) (b : ℕ) (u : List ℕ) (t : ℕ) → operand u2 at bytes ≡ Ok (x, b, u) → t ≡ target pc (cast_signed w16 x.value) → judged (operands_of pool opcode.IF_ICMPLT pc) at bytes ≡ Ok (IfInts Lt t, b, u)
 unfolding operands_of
-jump_161 pool pc at bytes x b u t e is = jumped pc (λ k. IfInts Lt k) at bytes x b u t e is
+jump_if_icmplt pool pc at bytes x b u t e is = jumped pc (λ k. IfInts Lt k) at bytes x b u t e is
 
-pub jump_162 : (pool : Pool) (pc at : ℕ) (bytes : List ℕ) (x : Placed ℕ) (b : ℕ) (u : List ℕ) (t : ℕ) → operand u2 at bytes ≡ Ok (x, b, u) → t ≡ target pc (cast_signed w16 x.value) → judged (operands_of pool 162 pc) at bytes ≡ Ok (IfInts Ge t, b, u)
+pub jump_if_icmpge : (pool : Pool) (pc at : ℕ) (bytes : List ℕ) (x : Placed ℕ) (b : ℕ) (u : List ℕ) (t : ℕ) → operand u2 at bytes ≡ Ok (x, b, u) → t ≡ target pc (cast_signed w16 x.value) → judged (operands_of pool opcode.IF_ICMPGE pc) at bytes ≡ Ok (IfInts Ge t, b, u)
 unfolding operands_of
-jump_162 pool pc at bytes x b u t e is = jumped pc (λ k. IfInts Ge k) at bytes x b u t e is
+jump_if_icmpge pool pc at bytes x b u t e is = jumped pc (λ k. IfInts Ge k) at bytes x b u t e is
 
-pub jump_163 : (pool : Pool) (pc at : ℕ) (bytes : List ℕ) (x : Placed ℕ) (b : ℕ) (u : List ℕ) (t : ℕ) → operand u2 at bytes ≡ Ok (x, b, u) → t ≡ target pc (cast_signed w16 x.value) → judged (operands_of pool 163 pc) at bytes ≡ Ok (IfInts Gt t, b, u)
+pub jump_if_icmpgt : (pool : Pool) (pc at : ℕ) (bytes : List ℕ) (x : Placed ℕ) (b : ℕ) (u : List ℕ) (t : ℕ) → operand u2 at bytes ≡ Ok (x, b, u) → t ≡ target pc (cast_signed w16 x.value) → judged (operands_of pool opcode.IF_ICMPGT pc) at bytes ≡ Ok (IfInts Gt t, b, u)
 unfolding operands_of
-jump_163 pool pc at bytes x b u t e is = jumped pc (λ k. IfInts Gt k) at bytes x b u t e is
+jump_if_icmpgt pool pc at bytes x b u t e is = jumped pc (λ k. IfInts Gt k) at bytes x b u t e is
 
-pub jump_164 : (pool : Pool) (pc at : ℕ) (bytes : List ℕ) (x : Placed ℕ) (b : ℕ) (u : List ℕ) (t : ℕ) → operand u2 at bytes ≡ Ok (x, b, u) → t ≡ target pc (cast_signed w16 x.value) → judged (operands_of pool 164 pc) at bytes ≡ Ok (IfInts Le t, b, u)
+pub jump_if_icmple : (pool : Pool) (pc at : ℕ) (bytes : List ℕ) (x : Placed ℕ) (b : ℕ) (u : List ℕ) (t : ℕ) → operand u2 at bytes ≡ Ok (x, b, u) → t ≡ target pc (cast_signed w16 x.value) → judged (operands_of pool opcode.IF_ICMPLE pc) at bytes ≡ Ok (IfInts Le t, b, u)
 unfolding operands_of
-jump_164 pool pc at bytes x b u t e is = jumped pc (λ k. IfInts Le k) at bytes x b u t e is
+jump_if_icmple pool pc at bytes x b u t e is = jumped pc (λ k. IfInts Le k) at bytes x b u t e is
 
-pub jump_165 : (pool : Pool) (pc at : ℕ) (bytes : List ℕ) (x : Placed ℕ) (b : ℕ) (u : List ℕ) (t : ℕ) → operand u2 at bytes ≡ Ok (x, b, u) → t ≡ target pc (cast_signed w16 x.value) → judged (operands_of pool 165 pc) at bytes ≡ Ok (IfSame t, b, u)
+pub jump_if_acmpeq : (pool : Pool) (pc at : ℕ) (bytes : List ℕ) (x : Placed ℕ) (b : ℕ) (u : List ℕ) (t : ℕ) → operand u2 at bytes ≡ Ok (x, b, u) → t ≡ target pc (cast_signed w16 x.value) → judged (operands_of pool opcode.IF_ACMPEQ pc) at bytes ≡ Ok (IfSame t, b, u)
 unfolding operands_of
-jump_165 pool pc at bytes x b u t e is = jumped pc (λ k. IfSame k) at bytes x b u t e is
+jump_if_acmpeq pool pc at bytes x b u t e is = jumped pc (λ k. IfSame k) at bytes x b u t e is
 
-pub jump_166 : (pool : Pool) (pc at : ℕ) (bytes : List ℕ) (x : Placed ℕ) (b : ℕ) (u : List ℕ) (t : ℕ) → operand u2 at bytes ≡ Ok (x, b, u) → t ≡ target pc (cast_signed w16 x.value) → judged (operands_of pool 166 pc) at bytes ≡ Ok (IfOther t, b, u)
+pub jump_if_acmpne : (pool : Pool) (pc at : ℕ) (bytes : List ℕ) (x : Placed ℕ) (b : ℕ) (u : List ℕ) (t : ℕ) → operand u2 at bytes ≡ Ok (x, b, u) → t ≡ target pc (cast_signed w16 x.value) → judged (operands_of pool opcode.IF_ACMPNE pc) at bytes ≡ Ok (IfOther t, b, u)
 unfolding operands_of
-jump_166 pool pc at bytes x b u t e is = jumped pc (λ k. IfOther k) at bytes x b u t e is
+jump_if_acmpne pool pc at bytes x b u t e is = jumped pc (λ k. IfOther k) at bytes x b u t e is
 
-pub jump_198 : (pool : Pool) (pc at : ℕ) (bytes : List ℕ) (x : Placed ℕ) (b : ℕ) (u : List ℕ) (t : ℕ) → operand u2 at bytes ≡ Ok (x, b, u) → t ≡ target pc (cast_signed w16 x.value) → judged (operands_of pool 198 pc) at bytes ≡ Ok (IfNull t, b, u)
+pub jump_ifnull : (pool : Pool) (pc at : ℕ) (bytes : List ℕ) (x : Placed ℕ) (b : ℕ) (u : List ℕ) (t : ℕ) → operand u2 at bytes ≡ Ok (x, b, u) → t ≡ target pc (cast_signed w16 x.value) → judged (operands_of pool opcode.IFNULL pc) at bytes ≡ Ok (IfNull t, b, u)
 unfolding operands_of
-jump_198 pool pc at bytes x b u t e is = jumped pc (λ k. IfNull k) at bytes x b u t e is
+jump_ifnull pool pc at bytes x b u t e is = jumped pc (λ k. IfNull k) at bytes x b u t e is
 
-pub jump_199 : (pool : Pool) (pc at : ℕ) (bytes : List ℕ) (x : Placed ℕ) (b : ℕ) (u : List ℕ) (t : ℕ) → operand u2 at bytes ≡ Ok (x, b, u) → t ≡ target pc (cast_signed w16 x.value) → judged (operands_of pool 199 pc) at bytes ≡ Ok (IfNotNull t, b, u)
+pub jump_ifnonnull : (pool : Pool) (pc at : ℕ) (bytes : List ℕ) (x : Placed ℕ) (b : ℕ) (u : List ℕ) (t : ℕ) → operand u2 at bytes ≡ Ok (x, b, u) → t ≡ target pc (cast_signed w16 x.value) → judged (operands_of pool opcode.IFNONNULL pc) at bytes ≡ Ok (IfNotNull t, b, u)
 unfolding operands_of
-jump_199 pool pc at bytes x b u t e is = jumped pc (λ k. IfNotNull k) at bytes x b u t e is
+jump_ifnonnull pool pc at bytes x b u t e is = jumped pc (λ k. IfNotNull k) at bytes x b u t e is
 
-pub jump_167 : (pool : Pool) (pc at : ℕ) (bytes : List ℕ) (x : Placed ℕ) (b : ℕ) (u : List ℕ) (t : ℕ) → operand u2 at bytes ≡ Ok (x, b, u) → t ≡ target pc (cast_signed w16 x.value) → judged (operands_of pool 167 pc) at bytes ≡ Ok (Goto t, b, u)
+pub jump_goto : (pool : Pool) (pc at : ℕ) (bytes : List ℕ) (x : Placed ℕ) (b : ℕ) (u : List ℕ) (t : ℕ) → operand u2 at bytes ≡ Ok (x, b, u) → t ≡ target pc (cast_signed w16 x.value) → judged (operands_of pool opcode.GOTO pc) at bytes ≡ Ok (Goto t, b, u)
 unfolding operands_of
-jump_167 pool pc at bytes x b u t e is = jumped pc (λ k. Goto k) at bytes x b u t e is
+jump_goto pool pc at bytes x b u t e is = jumped pc (λ k. Goto k) at bytes x b u t e is
 
 past : (n code : ℕ) → n ≤ code → code ≢ n → n + 1 ≤ code
 past n code le other = grind arith
 
 -- the last of the branches
-pub jump_last : (code : ℕ) (pool : Pool) (pc at : ℕ) (bytes : List ℕ) (x : Placed ℕ) (b : ℕ) (u : List ℕ) (t : ℕ) → 153 ≤ code → code ≤ 167 → code ≢ 153 → code ≢ 154 → code ≢ 155 → code ≢ 156 → code ≢ 157 → code ≢ 158 → code ≢ 159 → code ≢ 160 → code ≢ 161 → code ≢ 162 → code ≢ 163 → code ≢ 164 → code ≢ 165 → code ≢ 166 → operand u2 at bytes ≡ Ok (x, b, u) → t ≡ target pc (cast_signed w16 x.value) → judged (operands_of pool code pc) at bytes ≡ Ok (Goto t, b, u)
-jump_last code pool pc at bytes x b u t low high n153 n154 n155 n156 n157 n158 n159 n160 n161 n162 n163 n164 n165 n166 e is =
-    let l154 : 154 ≤ code = past 153 code low n153 in
-    let l155 : 155 ≤ code = past 154 code l154 n154 in
-    let l156 : 156 ≤ code = past 155 code l155 n155 in
-    let l157 : 157 ≤ code = past 156 code l156 n156 in
-    let l158 : 158 ≤ code = past 157 code l157 n157 in
-    let l159 : 159 ≤ code = past 158 code l158 n158 in
-    let l160 : 160 ≤ code = past 159 code l159 n159 in
-    let l161 : 161 ≤ code = past 160 code l160 n160 in
-    let l162 : 162 ≤ code = past 161 code l161 n161 in
-    let l163 : 163 ≤ code = past 162 code l162 n162 in
-    let l164 : 164 ≤ code = past 163 code l163 n163 in
-    let l165 : 165 ≤ code = past 164 code l164 n164 in
-    let l166 : 166 ≤ code = past 165 code l165 n165 in
-    let l167 : 167 ≤ code = past 166 code l166 n166 in
-    let last : code ≡ 167 = omega arith in
-    rw last (jump_167 pool pc at bytes x b u t e is)
+pub jump_last : (code : ℕ) (pool : Pool) (pc at : ℕ) (bytes : List ℕ) (x : Placed ℕ) (b : ℕ) (u : List ℕ) (t : ℕ) → opcode.IFEQ ≤ code → code ≤ opcode.GOTO → code ≢ opcode.IFEQ → code ≢ opcode.IFNE → code ≢ opcode.IFLT → code ≢ opcode.IFGE → code ≢ opcode.IFGT → code ≢ opcode.IFLE → code ≢ opcode.IF_ICMPEQ → code ≢ opcode.IF_ICMPNE → code ≢ opcode.IF_ICMPLT → code ≢ opcode.IF_ICMPGE → code ≢ opcode.IF_ICMPGT → code ≢ opcode.IF_ICMPLE → code ≢ opcode.IF_ACMPEQ → code ≢ opcode.IF_ACMPNE → operand u2 at bytes ≡ Ok (x, b, u) → t ≡ target pc (cast_signed w16 x.value) → judged (operands_of pool code pc) at bytes ≡ Ok (Goto t, b, u)
+jump_last code pool pc at bytes x b u t low high not_ifeq not_ifne not_iflt not_ifge not_ifgt not_ifle not_if_icmpeq not_if_icmpne not_if_icmplt not_if_icmpge not_if_icmpgt not_if_icmple not_if_acmpeq not_if_acmpne e is =
+    let from_ifne : opcode.IFNE ≤ code = past opcode.IFEQ code low not_ifeq in
+    let from_iflt : opcode.IFLT ≤ code = past opcode.IFNE code from_ifne not_ifne in
+    let from_ifge : opcode.IFGE ≤ code = past opcode.IFLT code from_iflt not_iflt in
+    let from_ifgt : opcode.IFGT ≤ code = past opcode.IFGE code from_ifge not_ifge in
+    let from_ifle : opcode.IFLE ≤ code = past opcode.IFGT code from_ifgt not_ifgt in
+    let from_if_icmpeq : opcode.IF_ICMPEQ ≤ code = past opcode.IFLE code from_ifle not_ifle in
+    let from_if_icmpne : opcode.IF_ICMPNE ≤ code = past opcode.IF_ICMPEQ code from_if_icmpeq not_if_icmpeq in
+    let from_if_icmplt : opcode.IF_ICMPLT ≤ code = past opcode.IF_ICMPNE code from_if_icmpne not_if_icmpne in
+    let from_if_icmpge : opcode.IF_ICMPGE ≤ code = past opcode.IF_ICMPLT code from_if_icmplt not_if_icmplt in
+    let from_if_icmpgt : opcode.IF_ICMPGT ≤ code = past opcode.IF_ICMPGE code from_if_icmpge not_if_icmpge in
+    let from_if_icmple : opcode.IF_ICMPLE ≤ code = past opcode.IF_ICMPGT code from_if_icmpgt not_if_icmpgt in
+    let from_if_acmpeq : opcode.IF_ACMPEQ ≤ code = past opcode.IF_ICMPLE code from_if_icmple not_if_icmple in
+    let from_if_acmpne : opcode.IF_ACMPNE ≤ code = past opcode.IF_ACMPEQ code from_if_acmpeq not_if_acmpeq in
+    let from_goto : opcode.GOTO ≤ code = past opcode.IF_ACMPNE code from_if_acmpne not_if_acmpne in
+    let last : code ≡ opcode.GOTO = omega arith in
+    rw last (jump_goto pool pc at bytes x b u t e is)
 
-pub ruleset jumps = (jump_153, jump_154, jump_155, jump_156, jump_157, jump_158, jump_159, jump_160, jump_161, jump_162, jump_163, jump_164, jump_165, jump_166, jump_last)
+pub ruleset jumps = (jump_ifeq, jump_ifne, jump_iflt, jump_ifge, jump_ifgt, jump_ifle, jump_if_icmpeq, jump_if_icmpne, jump_if_icmplt, jump_if_icmpge, jump_if_icmpgt, jump_if_icmple, jump_if_acmpeq, jump_if_acmpne, jump_last)

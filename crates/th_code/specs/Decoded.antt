@@ -19,7 +19,8 @@ pub record IsRead (pool : Pool) (max_locals at : ℕ) (code : List ℕ) (instrs 
 
 -- the first flaw of an instruction
 abbrev pub IsStopped : Pool → ℕ → ℕ → List ℕ → Flaw → Type 0
-IsStopped pool max_locals at code flaw = (others : List Flaw) × (filter_map (instr_flaw max_locals at) (decoded pool 0 0 code) ≡ flaw ∷ others)
+IsStopped pool max_locals at code flaw =
+    (others : List Flaw) × (filter_map (instr_flaw max_locals at) (decoded pool 0 0 code) ≡ flaw ∷ others)
 
 -- the answer of a reader of an instruction, where the opcode stands at this offset of the file
 abbrev pub placed_fail : Fail ℕ → ℕ → Fail Flaw

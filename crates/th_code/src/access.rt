@@ -1,5 +1,6 @@
 // Reading accesses of fields and calls of methods (Java specification 6.5).
 ghost use Rattle.std.specs.Prelude.{◌≡◌, ◌==◌, ◌≤◌};
+ghost use Rattle.th_syntax.specs.declared.opcode.TheConstants as opcodes;
 ghost use Rattle.th_code.specs.Judged.{Takes, as_read, judged, operands_of};
 
 use crate::member::{MethodKind, field, method};
@@ -10,15 +11,15 @@ use th_syntax::{Instr, opcode};
 
 // An access of a field.
 #[tactic(auto, using(crate::proofs::Members::accesses))]
-pub fn access<'a>(
+pub(crate) fn access<'a>(
     alloc: Global,
     pool: &Pool,
     code: u8,
     pc: u32,
     place: Place<'a>,
 ) -> Taken<'a, Instr>
-    requires low { 178 ≤ code }
-    requires high { code ≤ 181 }
+    requires low { opcodes.GETSTATIC ≤ code }
+    requires high { code ≤ opcodes.PUTFIELD }
     ensures { Takes as_read result (judged (operands_of pool.now code pc) place.entry.at place.entry.rest.now) }
 {
     let (index, place) = short(place)?;
@@ -39,9 +40,15 @@ fn is_zero(byte: u8) -> bool
 
 // A call of a method of a class, or of either kind: `invokevirtual` to `invokestatic`.
 #[tactic(auto, using(crate::proofs::Members::calls))]
-pub fn call<'a>(alloc: Global, pool: &Pool, code: u8, pc: u32, place: Place<'a>) -> Taken<'a, Instr>
-    requires low { 182 ≤ code }
-    requires high { code ≤ 184 }
+pub(crate) fn call<'a>(
+    alloc: Global,
+    pool: &Pool,
+    code: u8,
+    pc: u32,
+    place: Place<'a>,
+) -> Taken<'a, Instr>
+    requires low { opcodes.INVOKEVIRTUAL ≤ code }
+    requires high { code ≤ opcodes.INVOKESTATIC }
     ensures { Takes as_read result (judged (operands_of pool.now code pc) place.entry.at place.entry.rest.now) }
 {
     let (index, place) = short(place)?;
@@ -63,8 +70,13 @@ pub fn call<'a>(alloc: Global, pool: &Pool, code: u8, pc: u32, place: Place<'a>)
 
 // A call of a method of an interface. Its count isn't looked at, and the byte behind it is 0.
 #[tactic(auto, using(crate::proofs::Members::interface_calls))]
-pub fn interface_call<'a>(alloc: Global, pool: &Pool, pc: u32, place: Place<'a>) -> Taken<'a, Instr>
-    ensures { Takes as_read result (judged (operands_of pool.now 185 pc) place.entry.at place.entry.rest.now) }
+pub(crate) fn interface_call<'a>(
+    alloc: Global,
+    pool: &Pool,
+    pc: u32,
+    place: Place<'a>,
+) -> Taken<'a, Instr>
+    ensures { Takes as_read result (judged (operands_of pool.now opcodes.INVOKEINTERFACE pc) place.entry.at place.entry.rest.now) }
 {
     let (index, place) = short(place)?;
     let (_, place) = byte(place)?;

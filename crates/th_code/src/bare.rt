@@ -11,7 +11,7 @@ use th_syntax::{Instr, StackOp, opcode};
 
 // An access of an array: `iaload` to `saload` and `iastore` to `sastore`.
 #[tactic(auto, unfolding(crate::specs::Judged::operands_of))]
-pub fn array_access(code: u8) -> Option<Instr>
+pub(crate) fn array_access(code: u8) -> Option<Instr>
     ensures some { IfSome result (λ i. (pool : Pool) (pc : ℕ) → operands_of pool code pc ≡ plain i) }
     ensures none { IfNone result (list_any (λ n. n == code) array_access_codes ≡ false) }
 {
@@ -34,7 +34,7 @@ pub fn array_access(code: u8) -> Option<Instr>
 
 // A move of the operand stack: `pop` to `swap`.
 #[tactic(auto, unfolding(crate::specs::Judged::operands_of))]
-pub fn stack_move(code: u8) -> Option<Instr>
+pub(crate) fn stack_move(code: u8) -> Option<Instr>
     ensures some { IfSome result (λ i. (pool : Pool) (pc : ℕ) → operands_of pool code pc ≡ plain i) }
     ensures none { IfNone result (list_any (λ n. n == code) stack_move_codes ≡ false) }
 {
@@ -54,7 +54,7 @@ pub fn stack_move(code: u8) -> Option<Instr>
 
 // An operation on two ints or two longs: `iadd` to `lxor`.
 #[tactic(auto, unfolding(crate::specs::Judged::operands_of))]
-pub fn arithmetic(code: u8) -> Option<Instr>
+pub(crate) fn arithmetic(code: u8) -> Option<Instr>
     ensures some { IfSome result (λ i. (pool : Pool) (pc : ℕ) → operands_of pool code pc ≡ plain i) }
     ensures none { IfNone result (list_any (λ n. n == code) arithmetic_codes ≡ false) }
 {
@@ -87,7 +87,7 @@ pub fn arithmetic(code: u8) -> Option<Instr>
 
 // An operation on one value, and the comparison of two longs.
 #[tactic(auto, unfolding(crate::specs::Judged::operands_of))]
-pub fn conversion(code: u8) -> Option<Instr>
+pub(crate) fn conversion(code: u8) -> Option<Instr>
     ensures some { IfSome result (λ i. (pool : Pool) (pc : ℕ) → operands_of pool code pc ≡ plain i) }
     ensures none { IfNone result (list_any (λ n. n == code) conversion_codes ≡ false) }
 {

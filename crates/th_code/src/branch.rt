@@ -1,6 +1,7 @@
 // Branches and their targets (Java specification 6.5).
 ghost use Rattle.std.specs.Prelude.{◌≡◌, ◌≤◌, ℕ, List, Ok};
 ghost use Rattle.std.specs.Int.{w16, w32, cast_signed};
+ghost use Rattle.th_syntax.specs.declared.opcode.TheConstants as opcodes;
 ghost use Rattle.th_syntax.specs.Forms.{Placed};
 ghost use Rattle.th_syntax.specs.ClassBytes as file;
 ghost use Rattle.th_syntax.specs.CodeBytes as spelling;
@@ -11,7 +12,7 @@ use th_syntax::{Instr, OUTSIDE, opcode};
 
 // The offset in the code to which a branch at `pc` leads.
 #[tactic(auto, using(crate::proofs::Targets::targets))]
-pub fn target(pc: u32, by: i32) -> u32
+pub(crate) fn target(pc: u32, by: i32) -> u32
     ensures { result ≡ spelling.target pc by }
 {
     let to = i64::from(pc) + i64::from(by);
@@ -25,13 +26,13 @@ pub fn target(pc: u32, by: i32) -> u32
 }
 
 // The same for a branch by an offset of two bytes, and of four.
-pub fn near(pc: u32, by: u16) -> u32
+pub(crate) fn near(pc: u32, by: u16) -> u32
     ensures { result ≡ spelling.target pc (cast_signed w16 by) }
 {
     target(pc, i32::from(by.cast_signed()))
 }
 
-pub fn far(pc: u32, by: u32) -> u32
+pub(crate) fn far(pc: u32, by: u32) -> u32
     ensures { result ≡ spelling.target pc (cast_signed w32 by) }
 {
     target(pc, by.cast_signed())
@@ -39,9 +40,9 @@ pub fn far(pc: u32, by: u32) -> u32
 
 // The branch by an offset of two bytes, `ifeq` to `goto`.
 #[tactic(auto, using(crate::proofs::Targets::jumps))]
-pub fn jump(code: u8, target: u32) -> Instr
-    requires low { 153 ≤ code }
-    requires high { code ≤ 167 }
+pub(crate) fn jump(code: u8, target: u32) -> Instr
+    requires low { opcodes.IFEQ ≤ code }
+    requires high { code ≤ opcodes.GOTO }
     ensures { (pool : file.Pool) (pc at : ℕ) (bytes : List ℕ) (x : Placed ℕ) (b : ℕ) (u : List ℕ) → operand file.u2 at bytes ≡ Ok (x, b, u) → target ≡ spelling.target pc (cast_signed w16 x.value) → judged (operands_of pool code pc) at bytes ≡ Ok (result, b, u) }
 {
     match code {

@@ -17,7 +17,7 @@ use th_syntax::{Flaw, Instr};
 
 // The instructions of a code array, each with its offset, and for each offset whether one starts there.
 #[derive(Debug, Drop)]
-pub struct Decoded {
+pub(crate) struct Decoded {
     pub instrs: Vec<(u32, Instr)>,
     pub starts: Vec<bool>,
 }

@@ -21,7 +21,7 @@ fn has_tag(pool: &Pool, index: u16, expected: u8) -> bool
 
 // What `ldc` and `ldc_w` load: an Integer or a String.
 #[tactic(auto, using(crate::proofs::Loaded::loads))]
-pub fn load(alloc: Global, pool: &Pool, index: u16) -> Result<Instr, Fail<u8>>
+pub(crate) fn load(alloc: Global, pool: &Pool, index: u16) -> Result<Instr, Fail<u8>>
     ensures { Gets result (said (code.load pool.now index)) }
 {
     if let Some(value) = pool.integer(index) {
@@ -39,7 +39,7 @@ pub fn load(alloc: Global, pool: &Pool, index: u16) -> Result<Instr, Fail<u8>>
 
 // What `ldc2_w` loads: a Long.
 #[tactic(auto, using(crate::proofs::Loaded::wide_loads))]
-pub fn load_wide(pool: &Pool, index: u16) -> Result<Instr, Fail<u8>>
+pub(crate) fn load_wide(pool: &Pool, index: u16) -> Result<Instr, Fail<u8>>
     ensures { Gets result (said (code.load_wide pool.now index)) }
 {
     if let Some(value) = pool.long(index) {

@@ -1,5 +1,6 @@
 // Reading branches, switches and returns (Java specification 6.5).
-ghost use Rattle.std.specs.Prelude.{◌≡◌, ◌≤◌};
+ghost use Rattle.std.specs.Prelude.{◌≡◌, ◌<◌, ◌≤◌};
+ghost use Rattle.th_syntax.specs.declared.opcode.TheConstants as opcodes;
 ghost use Rattle.th_code.specs.Judged.{Takes, as_read, judged, operands_of};
 
 use crate::branch::{jump, near};
@@ -13,9 +14,9 @@ use th_syntax::{Instr, opcode};
 
 // A branch by an offset of two bytes, from `ifeq` to `goto`.
 #[tactic(auto, using(crate::proofs::Branching::branches))]
-pub fn branch<'a>(pool: &Pool, code: u8, pc: u32, place: Place<'a>) -> Taken<'a, Instr>
-    requires low { 153 ≤ code }
-    requires high { code ≤ 167 }
+pub(crate) fn branch<'a>(pool: &Pool, code: u8, pc: u32, place: Place<'a>) -> Taken<'a, Instr>
+    requires low { opcodes.IFEQ ≤ code }
+    requires high { code ≤ opcodes.GOTO }
     ensures { Takes as_read result (judged (operands_of pool.now code pc) place.entry.at place.entry.rest.now) }
 {
     let (by, place) = short(place)?;
@@ -25,15 +26,15 @@ pub fn branch<'a>(pool: &Pool, code: u8, pc: u32, place: Place<'a>) -> Taken<'a,
 
 // What is behind an opcode from `goto` to `return` that is no branch.
 #[tactic(auto, using(crate::proofs::Branching::controls))]
-pub fn control<'a>(
+pub(crate) fn control<'a>(
     alloc: Global,
     pool: &Pool,
     code: u8,
     pc: u32,
     place: Place<'a>,
 ) -> Taken<'a, Instr>
-    requires low { 168 ≤ code }
-    requires high { code ≤ 177 }
+    requires low { opcodes.GOTO < code }
+    requires high { code ≤ opcodes.RETURN }
     ensures { Takes as_read result (judged (operands_of pool.now code pc) place.entry.at place.entry.rest.now) }
 {
     match code {

@@ -1,6 +1,7 @@
 // Instructions whose opcodes have a number in them, as `iload_3` (Java specification 6.5).
 ghost use Rattle.std.specs.Prelude.{◌≡◌, ◌≤◌, ◌&&◌, ◌-◌, ℕ, false, true, nat_le, IfNone, IfSome, pos, ◌-ℤ◌};
 ghost use Rattle.std.specs.List.{list_any};
+ghost use Rattle.th_syntax.specs.declared.opcode.TheConstants as opcodes;
 ghost use Rattle.th_syntax.specs.ClassBytes.{Pool};
 ghost use Rattle.th_syntax.specs.CodeBytes.{plain};
 ghost use Rattle.th_code.specs.Judged.{operands_of};
@@ -9,7 +10,7 @@ ghost use Rattle.th_code.specs.Opcodes.{is_within, small_constants, small_locals
 use th_syntax::{Instr, opcode};
 
 // Whether an opcode is one of those from the first to the last.
-pub fn is_between(code: u8, first: u8, last: u8) -> bool
+pub(crate) fn is_between(code: u8, first: u8, last: u8) -> bool
     ensures { result ≡ (nat_le first code && nat_le code last) }
 {
     first <= code && code <= last
@@ -17,15 +18,15 @@ pub fn is_between(code: u8, first: u8, last: u8) -> bool
 
 // The number of `iconst_m1` to `iconst_5`.
 fn small_int(code: u8) -> i32
-    requires { 2 ≤ code }
-    ensures { result ≡ pos (code - 2) -ℤ pos 1 }
+    requires { opcodes.ICONST_M1 ≤ code }
+    ensures { result ≡ pos (code - opcodes.ICONST_M1) -ℤ pos 1 }
 {
     i32::from(code - opcode::ICONST_M1) - 1
 }
 
 // A constant: `iconst_m1` to `iconst_5`, and `lconst_0`, `lconst_1`.
 #[tactic(auto, using(crate::proofs::Families::constants))]
-pub fn small_constant(code: u8) -> Option<Instr>
+pub(crate) fn small_constant(code: u8) -> Option<Instr>
     ensures some { IfSome result (λ i. (pool : Pool) (pc : ℕ) → operands_of pool code pc ≡ plain i) }
     ensures none { IfNone result (list_any (is_within code) small_constants ≡ false) }
 {
@@ -40,7 +41,7 @@ pub fn small_constant(code: u8) -> Option<Instr>
 
 // A load or a store of one of the first four local variables.
 #[tactic(auto, using(crate::proofs::Families::locals))]
-pub fn small_local(code: u8) -> Option<Instr>
+pub(crate) fn small_local(code: u8) -> Option<Instr>
     ensures some { IfSome result (λ i. (pool : Pool) (pc : ℕ) → operands_of pool code pc ≡ plain i) }
     ensures none { IfNone result (list_any (is_within code) small_locals ≡ false) }
 {

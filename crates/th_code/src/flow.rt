@@ -64,7 +64,7 @@ fn behind_of(instrs: &[(u32, Instr)], next: usize) -> u32
 }
 
 // The offset of the first instruction that leads to no instruction.
-pub fn first_stray(starts: &[bool], instrs: &[(u32, Instr)]) -> Option<u32>
+pub(crate) fn first_stray(starts: &[bool], instrs: &[(u32, Instr)]) -> Option<u32>
     ensures { result ≡ first_stray_of (is_marked starts.now) instrs.now }
 {
     for i in 0..instrs.len() {

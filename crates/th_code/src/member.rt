@@ -100,7 +100,7 @@ fn is_field(found: u8) -> bool
 
 // Of which classes a method may be that an instruction calls.
 #[derive(Clone, Copy, Debug)]
-pub enum MethodKind {
+pub(crate) enum MethodKind {
     OfClass,
     OfInterface,
     OfEither,
@@ -119,7 +119,7 @@ fn is_method(kind: MethodKind, found: u8) -> bool
 
 // The field that an instruction gets or puts.
 #[tactic(auto, using(crate::proofs::Named::members))]
-pub fn field(alloc: Global, pool: &Pool, index: u16) -> Result<MemberRef, Fail<u8>>
+pub(crate) fn field(alloc: Global, pool: &Pool, index: u16) -> Result<MemberRef, Fail<u8>>
     ensures { Gets result (named field_numbers (member_among pool.now (tags.FIELD ∷ []) index)) }
 {
     let Some(member) = pool.member_texts(index) else {
@@ -137,7 +137,7 @@ pub fn field(alloc: Global, pool: &Pool, index: u16) -> Result<MemberRef, Fail<u
 
 // The method that an instruction calls, where all else of the instruction is sound.
 #[tactic(auto, using(crate::proofs::Named::members))]
-pub fn method(
+pub(crate) fn method(
     alloc: Global,
     pool: &Pool,
     index: u16,
@@ -162,7 +162,7 @@ pub fn method(
 
 // The class of a Class entry.
 #[tactic(auto, using(crate::proofs::Named::classes))]
-pub fn class(alloc: Global, pool: &Pool, index: u16) -> Result<Text, Fail<u8>>
+pub(crate) fn class(alloc: Global, pool: &Pool, index: u16) -> Result<Text, Fail<u8>>
     ensures { Gets result (named class_name_numbers (class_of pool.now index)) }
 {
     let Some(name) = pool.class_text(index) else {
@@ -177,7 +177,7 @@ pub fn class(alloc: Global, pool: &Pool, index: u16) -> Result<Text, Fail<u8>>
 
 // The class or the array type of a Class entry.
 #[tactic(auto, using(crate::proofs::Named::classes))]
-pub fn class_or_array(alloc: Global, pool: &Pool, index: u16) -> Result<Text, Fail<u8>>
+pub(crate) fn class_or_array(alloc: Global, pool: &Pool, index: u16) -> Result<Text, Fail<u8>>
     ensures { Gets result (named class_or_array_numbers (class_of pool.now index)) }
 {
     let Some(name) = pool.class_text(index) else {

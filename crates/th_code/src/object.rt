@@ -1,5 +1,6 @@
 // Reading what makes and tests objects and arrays (Java specification 6.5).
-ghost use Rattle.std.specs.Prelude.{◌≡◌, ◌≤◌};
+ghost use Rattle.std.specs.Prelude.{◌≡◌, ◌<◌, ◌≤◌};
+ghost use Rattle.th_syntax.specs.declared.opcode.TheConstants as opcodes;
 ghost use Rattle.th_syntax.specs.CodeBytes as spelling;
 ghost use Rattle.th_code.specs.Judged.{Takes, as_read, judged, operands_of};
 
@@ -29,7 +30,7 @@ fn element_of(code: u8) -> Option<Primitive>
 // What is behind `newarray`.
 #[tactic(auto, using(crate::proofs::Objects::arrays))]
 fn new_array<'a>(pool: &Pool, pc: u32, place: Place<'a>) -> Taken<'a, Instr>
-    ensures { Takes as_read result (judged (operands_of pool.now 188 pc) place.entry.at place.entry.rest.now) }
+    ensures { Takes as_read result (judged (operands_of pool.now opcodes.NEWARRAY pc) place.entry.at place.entry.rest.now) }
 {
     let (element, place) = byte(place)?;
     match element_of(element) {
@@ -40,15 +41,15 @@ fn new_array<'a>(pool: &Pool, pc: u32, place: Place<'a>) -> Taken<'a, Instr>
 
 // What is behind an opcode from `new` to `monitorexit`.
 #[tactic(auto, using(crate::proofs::Objects::objects))]
-pub fn object<'a>(
+pub(crate) fn object<'a>(
     alloc: Global,
     pool: &Pool,
     code: u8,
     pc: u32,
     place: Place<'a>,
 ) -> Taken<'a, Instr>
-    requires low { 186 ≤ code }
-    requires high { code ≤ 195 }
+    requires low { opcodes.INVOKEINTERFACE < code }
+    requires high { code ≤ opcodes.MONITOREXIT }
     ensures { Takes as_read result (judged (operands_of pool.now code pc) place.entry.at place.entry.rest.now) }
 {
     match code {

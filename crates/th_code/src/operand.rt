@@ -14,7 +14,7 @@ pub type Taken<'a, T> = Result<(T, Place<'a>), Fail<u8>>;
 
 // An operand of one byte.
 #[tactic(auto, using(crate::proofs::Operands::taken))]
-pub fn byte(place: Place) -> Taken<u8>
+pub(crate) fn byte(place: Place) -> Taken<u8>
     ensures { Takes (number_at place.entry.at) result (operand file.u1 place.entry.at place.entry.rest.now) }
 {
     match u1(place) {
@@ -25,7 +25,7 @@ pub fn byte(place: Place) -> Taken<u8>
 
 // An operand of two bytes.
 #[tactic(auto, using(crate::proofs::Operands::taken))]
-pub fn short(place: Place) -> Taken<u16>
+pub(crate) fn short(place: Place) -> Taken<u16>
     ensures { Takes (number_at place.entry.at) result (operand file.u2 place.entry.at place.entry.rest.now) }
 {
     match u2(place) {
@@ -36,7 +36,7 @@ pub fn short(place: Place) -> Taken<u16>
 
 // An operand of four bytes.
 #[tactic(auto, using(crate::proofs::Operands::taken))]
-pub fn word(place: Place) -> Taken<u32>
+pub(crate) fn word(place: Place) -> Taken<u32>
     ensures { Takes (number_at place.entry.at) result (operand file.u4 place.entry.at place.entry.rest.now) }
 {
     match u4(place) {
@@ -47,7 +47,7 @@ pub fn word(place: Place) -> Taken<u32>
 
 // So many bytes.
 #[tactic(auto, using(crate::proofs::Operands::taken))]
-pub fn bytes<'a>(place: Place<'a>, count: usize) -> Taken<'a, &'a [u8]>
+pub(crate) fn bytes<'a>(place: Place<'a>, count: usize) -> Taken<'a, &'a [u8]>
     ensures { Takes (bytes_at place.entry.at) result (operand (file.run count) place.entry.at place.entry.rest.now) }
 {
     match run(place, count) {

@@ -1,5 +1,6 @@
 // Reading constants, locals, moves on the stack and arithmetic (Java specification 6.5).
 ghost use Rattle.std.specs.Prelude.{◌≡◌, ◌==◌, ◌≤◌, ◌<◌};
+ghost use Rattle.th_syntax.specs.declared.opcode.TheConstants as opcodes;
 ghost use Rattle.th_syntax.specs.CodeBytes as spelling;
 ghost use Rattle.th_code.specs.Judged.{Takes, as_read, judged, operands_of};
 
@@ -17,14 +18,14 @@ use th_syntax::{Instr, opcode};
 
 // What is behind an opcode up to `ldc2_w`.
 #[tactic(auto, using(crate::proofs::Constants::constants))]
-pub fn constant<'a>(
+pub(crate) fn constant<'a>(
     alloc: Global,
     pool: &Pool,
     code: u8,
     pc: u32,
     place: Place<'a>,
 ) -> Taken<'a, Instr>
-    requires { code ≤ 20 }
+    requires { code ≤ opcodes.LDC2_W }
     ensures { Takes as_read result (judged (operands_of pool.now code pc) place.entry.at place.entry.rest.now) }
 {
     if let Some(instr) = small_constant(code) {
@@ -64,9 +65,9 @@ pub fn constant<'a>(
 
 // What is behind an opcode from `iload` to `sastore`.
 #[tactic(auto, using(crate::proofs::Variables::variables))]
-pub fn variable<'a>(pool: &Pool, code: u8, pc: u32, place: Place<'a>) -> Taken<'a, Instr>
-    requires low { 21 ≤ code }
-    requires high { code ≤ 86 }
+pub(crate) fn variable<'a>(pool: &Pool, code: u8, pc: u32, place: Place<'a>) -> Taken<'a, Instr>
+    requires low { opcodes.ILOAD ≤ code }
+    requires high { code ≤ opcodes.SASTORE }
     ensures { Takes as_read result (judged (operands_of pool.now code pc) place.entry.at place.entry.rest.now) }
 {
     if let Some(instr) = array_access(code) {
@@ -108,9 +109,14 @@ pub fn variable<'a>(pool: &Pool, code: u8, pc: u32, place: Place<'a>) -> Taken<'
 
 // What is behind an opcode from `pop` to `lcmp`, and on to the comparisons of floats.
 #[tactic(auto, using(crate::proofs::Arithmetic::arithmetics))]
-pub fn arithmetic_at<'a>(pool: &Pool, code: u8, pc: u32, place: Place<'a>) -> Taken<'a, Instr>
-    requires low { 87 ≤ code }
-    requires high { code ≤ 152 }
+pub(crate) fn arithmetic_at<'a>(
+    pool: &Pool,
+    code: u8,
+    pc: u32,
+    place: Place<'a>,
+) -> Taken<'a, Instr>
+    requires low { opcodes.POP ≤ code }
+    requires high { code < opcodes.IFEQ }
     ensures { Takes as_read result (judged (operands_of pool.now code pc) place.entry.at place.entry.rest.now) }
 {
     if let Some(instr) = stack_move(code) {

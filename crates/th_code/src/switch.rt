@@ -134,7 +134,7 @@ fn keys_rise(pairs: &[(i32, u32)]) -> bool
 
 // What is behind a `tableswitch` at `pc`.
 #[tactic(auto, using(crate::proofs::Switches::tables))]
-pub fn table_switch<'a>(alloc: Global, pc: u32, place: Place<'a>) -> Taken<'a, Instr>
+pub(crate) fn table_switch<'a>(alloc: Global, pc: u32, place: Place<'a>) -> Taken<'a, Instr>
     ensures { Takes as_read result (judged (spelling.table_switch pc) place.entry.at place.entry.rest.now) }
 {
     let (_, place) = bytes(place, padding(pc))?;
@@ -157,7 +157,7 @@ pub fn table_switch<'a>(alloc: Global, pc: u32, place: Place<'a>) -> Taken<'a, I
 
 // What is behind a `lookupswitch` at `pc`.
 #[tactic(auto, using(crate::proofs::Switches::lookups))]
-pub fn lookup_switch<'a>(alloc: Global, pc: u32, place: Place<'a>) -> Taken<'a, Instr>
+pub(crate) fn lookup_switch<'a>(alloc: Global, pc: u32, place: Place<'a>) -> Taken<'a, Instr>
     ensures { Takes as_read result (judged (spelling.lookup_switch pc) place.entry.at place.entry.rest.now) }
 {
     let (_, place) = bytes(place, padding(pc))?;

@@ -1,5 +1,6 @@
 // Reading what `wide` widens, and the branches behind it (Java specification 6.5).
 ghost use Rattle.std.specs.Prelude.{◌≡◌, ◌≤◌};
+ghost use Rattle.th_syntax.specs.declared.opcode.TheConstants as opcodes;
 ghost use Rattle.th_code.specs.Judged.{Takes, as_read, judged, operands_of, wide_of};
 
 use crate::branch::{far, near};
@@ -50,8 +51,8 @@ fn widened<'a>(code: u8, pc: u32, place: Place<'a>) -> Taken<'a, Instr>
 
 // What is behind an opcode from `wide` on.
 #[tactic(auto, using(crate::proofs::Widening::extended))]
-pub fn extended<'a>(pool: &Pool, code: u8, pc: u32, place: Place<'a>) -> Taken<'a, Instr>
-    requires { 196 ≤ code }
+pub(crate) fn extended<'a>(pool: &Pool, code: u8, pc: u32, place: Place<'a>) -> Taken<'a, Instr>
+    requires { opcodes.WIDE ≤ code }
     ensures { Takes as_read result (judged (operands_of pool.now code pc) place.entry.at place.entry.rest.now) }
 {
     match code {

@@ -17,4 +17,5 @@ pub record FlowsWell (instrs : List (ℕ × Instr)) : Type 0 where
   pub some : 0 < length instrs
   pub first : (line instrs 0).0 ≡ 0
   pub ascending : (j k : ℕ) → j < k → k < length instrs → (line instrs j).0 < (line instrs k).0
-  pub jumps_in : (k to : ℕ) → k < length instrs → Contains (jumps (line instrs k).1) to → (j : ℕ) × (j < length instrs) × ((line instrs j).0 ≡ to)
+  pub jumps_in : (k to : ℕ) → k < length instrs → Contains (jumps (line instrs k).1) to
+      → (j : ℕ) × (j < length instrs) × ((line instrs j).0 ≡ to)

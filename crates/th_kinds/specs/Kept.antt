@@ -75,7 +75,8 @@ pub record IsStill (entry : KindsAt) (instrs : List (ℕ × Instr)) (offsets : L
 pub record IsSettled (entry : KindsAt) (instrs : List (ℕ × Instr)) (offsets : List ℕ) (kept : List (Option KindsAt)) : Type 0 where
   pub below : (u : ℕ → KindsAt) → IsStable entry instrs offsets u → IsUnder kept u
   pub still : (k : ℕ) → k < length instrs → IsStill entry instrs offsets kept k
-  pub keeps : (k j : ℕ) → k < length instrs → j < length offsets → Contains (jumps (line instrs k).1) (slice_index offsets j) → (known : KindsAt) × (kept_at kept j ≡ Some known)
+  pub keeps : (k j : ℕ) → k < length instrs → j < length offsets → Contains (jumps (line instrs k).1) (slice_index offsets j)
+      → (known : KindsAt) × (kept_at kept j ≡ Some known)
 
 -- nothing is known yet
 abbrev pub IsNothing : List (Option KindsAt) → Type 0

@@ -60,7 +60,8 @@ pub record IsKept (kept : List (Option KindsAt)) (k : ℕ) (brought : KindsAt) :
 -- nothing new comes from the instruction at a place, nor falls into it
 pub record IsQuiet (entry : KindsAt) (instrs : List (ℕ × Instr)) (kept : List (Option KindsAt)) (k : ℕ) : Type 0 where
   pub falling : (known : KindsAt) → kept_at kept k ≡ Some known → IsHeld (falls_in entry instrs kept k) known
-  pub jumping : (j : ℕ) → j < length instrs → Contains (jumps (line instrs k).1) (line instrs j).0 → IsKept kept j (after (row_of (line instrs k).1) (state_at entry instrs kept k))
+  pub jumping : (j : ℕ) → j < length instrs → Contains (jumps (line instrs k).1) (line instrs j).0
+      → IsKept kept j (after (row_of (line instrs k).1) (state_at entry instrs kept k))
 
 -- what is kept is below a table
 abbrev pub IsBelow : List (ℕ × Instr) → List (Option KindsAt) → (ℕ → KindsAt) → Type 0

@@ -81,7 +81,7 @@ fn infer_code<'a>(
 }
 
 /// The kinds of the slots before each instruction of a method that is reached, in the least table of
-/// docs/KIND_CONFLICT.md; none where the method has no code. Entries of the exception table are not followed.
+/// docs/KINDS.md; none where the method has no code. Entries of the exception table are not followed.
 ///
 /// A method whose kinds have a conflict is refused, with number 12, the name of its class, its own name
 /// and descriptor, and the least offset at which there is one. By the law `one_outcome` of th_syntax no

@@ -5,6 +5,7 @@ use Rattle.std.specs.Prelude.{Option, Some, None, nat_lt, nat_le}
 use Rattle.std.specs.List.{filter_map, cons_option, AllByRecursion}
 use Rattle.std.proofs.lemmas.Bool.{le-leb, leb-true}
 use Rattle.std.proofs.lemmas.List.{drop-drop}
+use Rattle.th_syntax.specs.declared.cause.TheConstants as cause
 use Rattle.th_syntax.specs.declared.refusal.Flaw.{Flaw}
 use Rattle.th_syntax.specs.Forms.{Form, whole, ◌>>=◌, Placed, Found, number_of, read}
 use Rattle.th_syntax.specs.ClassBytes.{Entry, Pool, number, u1, u2, demand, content, entry, slot, slots, takes_two, pool}
@@ -29,7 +30,7 @@ number_place : (n at : ℕ) (bytes : List ℕ) (found : Found (Placed ℕ)) → 
 unfolding read number
 number_place n at bytes found e =
     let made : Found (Placed ℕ) = (record { at = at; value = number_of (take n bytes) }, at + n, drop n bytes) in
-    let same : made ≡ found = passed (ltb (length bytes) n) (record { number = 2; offset = at }) made found e in
+    let same : made ≡ found = passed (ltb (length bytes) n) (record { number = cause.TRUNCATED; offset = at }) made found e in
     (ap (λ (f : Found (Placed ℕ)). f.0.at) (sym same), ap (λ (f : Found (Placed ℕ)). f.1) (sym same))
 
 whole_found : {A : Type 0} (x : A) (at : ℕ) (bytes : List ℕ) (found : Found A) → read (whole x) at bytes ≡ Ok found → (found.0 ≡ x) × (found.1 ≡ at)
@@ -60,7 +61,7 @@ unfolding entry
 entry_place left at bytes found e =
     let one = read_split u1 (behind_tag left) at bytes found e in
     let tag = number_place 1 at bytes one.0 one.1 in
-    let rest = demand_found (allows left one.0.0.value) one.0.0.at 4 (λ known. with_tag one.0.0) one.0.1 one.0.2 found one.2 in
+    let rest = demand_found (allows left one.0.0.value) one.0.0.at cause.POOL (λ known. with_tag one.0.0) one.0.1 one.0.2 found one.2 in
     let two = read_split (content one.0.0.value) (λ value. whole (record { at = one.0.0.at; value = value })) one.0.1 one.0.2 found rest in
     let far = read_behind (content one.0.0.value) one.0.1 one.0.2 two.0 two.1 in
     let made : Placed Entry = record { at = one.0.0.at; value = two.0.0 } in
@@ -102,7 +103,7 @@ pub pool_ascends : (at : ℕ) (bytes : List ℕ) (found : Found Pool) → read p
 unfolding pool
 pool_ascends at bytes found e =
     let one = read_split u2 counted at bytes found e in
-    let rest = demand_found (nat_lt 0 one.0.0.value) one.0.0.at 4 (λ counts. behind_count one.0.0) one.0.1 one.0.2 found one.2 in
+    let rest = demand_found (nat_lt 0 one.0.0.value) one.0.0.at cause.POOL (λ counts. behind_count one.0.0) one.0.1 one.0.2 found one.2 in
     let two = read_split (slots false (one.0.0.value - 1)) (λ others. whole (None ∷ others)) one.0.1 one.0.2 found rest in
     let made : Pool = None ∷ two.0.0 in
     let last = whole_found made two.0.1 two.0.2 found two.2 in
@@ -111,7 +112,7 @@ pool_ascends at bytes found e =
 -- ---- the first flaw of ascending entries
 
 -- the flaw of an entry, where it doesn't refer well
-one_flaw : (at : ℕ) (b : Bool) (P : Flaw → Type 0) → P (record { number = 4; offset = at }) → (rest : List Flaw) → AllByRecursion P rest → AllByRecursion P (cons_option (cond b None (Some (record { number = 4; offset = at }))) rest)
+one_flaw : (at : ℕ) (b : Bool) (P : Flaw → Type 0) → P (record { number = cause.POOL; offset = at }) → (rest : List Flaw) → AllByRecursion P rest → AllByRecursion P (cons_option (cond b None (Some (record { number = cause.POOL; offset = at }))) rest)
 one_flaw at true P here rest all = all
 one_flaw at false P here rest all = (here, all)
 
@@ -136,10 +137,10 @@ all_above at flaw lower (f ∷ flaws) all = (inl (let h : at ≤ f.offset = all.
 
 -- the first flaw is that of this entry, or it is among those behind it
 first_or_later : (b : Bool) (at : ℕ) (rest : List Flaw) (flaw : Flaw) (others : List Flaw) → AllByRecursion (λ f. at + 1 ≤ f.offset) rest → (rest ≡ flaw ∷ others → AllByRecursion (NotBehind flaw) others)
-    → cons_option (cond b None (Some (record { number = 4; offset = at }))) rest ≡ flaw ∷ others → AllByRecursion (NotBehind flaw) others
+    → cons_option (cond b None (Some (record { number = cause.POOL; offset = at }))) rest ≡ flaw ∷ others → AllByRecursion (NotBehind flaw) others
 first_or_later true at rest flaw others behind later e = later e
 first_or_later false at rest flaw others behind later e =
-    let here : (let f : Flaw = record { number = 4; offset = at } in f) ≡ flaw = cc in
+    let here : (let f : Flaw = record { number = cause.POOL; offset = at } in f) ≡ flaw = cc in
     let same : rest ≡ others = cc in
     let at_it : flaw.offset ≡ at = ap (λ (f : Flaw). f.offset) (sym here) in
     subst (AllByRecursion (NotBehind flaw)) same (all_above (at + 1) flaw (omega arith) rest behind)

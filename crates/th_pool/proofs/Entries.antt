@@ -1,6 +1,7 @@
 -- An entry, and what an index leads to, are read part by part.
 use Rattle.std.proofs.Common.{◌≡◌, ℕ, Bool, true, false, not, ◌&&◌, List, Ok, Err, refl, ◌∙◌}
 use Rattle.std.specs.Prelude.{Option, Some, None, ◌==◌}
+use Rattle.th_syntax.specs.declared.cause.TheConstants as cause
 use Rattle.th_syntax.specs.declared.refusal.Flaw.{Flaw}
 use Rattle.th_syntax.specs.Forms.{Form, whole, ◌>>=◌, Placed, read}
 use Rattle.th_syntax.specs.ClassBytes.{Entry, demand, u1, is_tag, is_wide, content, entry, slot}
@@ -15,30 +16,30 @@ abbrev pub with_tag : Placed ℕ → Form (Placed Entry)
 with_tag tag = content tag.value >>= λ value. whole (record { at = tag.at; value = value })
 
 abbrev pub behind_tag : ℕ → Placed ℕ → Form (Placed Entry)
-behind_tag left tag = demand (allows left tag.value) tag.at 4 >>= λ known. with_tag tag
+behind_tag left tag = demand (allows left tag.value) tag.at cause.POOL >>= λ known. with_tag tag
 
 pub entry_stops : (left at : ℕ) (bytes : List ℕ) (flaw : Flaw) → read u1 at bytes ≡ Err flaw → read (entry left) at bytes ≡ Err flaw
 unfolding entry
 entry_stops left at bytes flaw e = read_stops u1 (behind_tag left) at bytes flaw e
 
-pub entry_refused : (left at place tag : ℕ) (bytes : List ℕ) (b : ℕ) (u : List ℕ) → read u1 at bytes ≡ Ok (record { at = place; value = tag }, b, u) → allows left tag ≡ false → read (entry left) at bytes ≡ Err (record { number = 4; offset = place })
+pub entry_refused : (left at place tag : ℕ) (bytes : List ℕ) (b : ℕ) (u : List ℕ) → read u1 at bytes ≡ Ok (record { at = place; value = tag }, b, u) → allows left tag ≡ false → read (entry left) at bytes ≡ Err (record { number = cause.POOL; offset = place })
 unfolding entry
 entry_refused left at place tag bytes b u first fails =
     let one : Placed ℕ = record { at = place; value = tag } in
-    read_after u1 (behind_tag left) at bytes (one, b, u) first ∙ read_refusal (allows left tag) place 4 (λ known. with_tag one) b u fails
+    read_after u1 (behind_tag left) at bytes (one, b, u) first ∙ read_refusal (allows left tag) place cause.POOL (λ known. with_tag one) b u fails
 
 pub entry_read : (left at place tag : ℕ) (bytes : List ℕ) (b c : ℕ) (u v : List ℕ) (x : Entry) → read u1 at bytes ≡ Ok (record { at = place; value = tag }, b, u) → allows left tag ≡ true → read (content tag) b u ≡ Ok (x, c, v) → read (entry left) at bytes ≡ Ok (record { at = place; value = x }, c, v)
 unfolding entry
 entry_read left at place tag bytes b c u v x first holds second =
     let one : Placed ℕ = record { at = place; value = tag } in
-    read_after u1 (behind_tag left) at bytes (one, b, u) first ∙ read_demand (allows left tag) place 4 (λ known. with_tag one) b u holds
+    read_after u1 (behind_tag left) at bytes (one, b, u) first ∙ read_demand (allows left tag) place cause.POOL (λ known. with_tag one) b u holds
     ∙ read_after (content tag) (λ value. whole (record { at = place; value = value })) b u (x, c, v) second ∙ read_whole (record { at = place; value = x }) c v
 
 pub entry_stops_later : (left at place tag : ℕ) (bytes : List ℕ) (b : ℕ) (u : List ℕ) (flaw : Flaw) → read u1 at bytes ≡ Ok (record { at = place; value = tag }, b, u) → allows left tag ≡ true → read (content tag) b u ≡ Err flaw → read (entry left) at bytes ≡ Err flaw
 unfolding entry
 entry_stops_later left at place tag bytes b u flaw first holds second =
     let one : Placed ℕ = record { at = place; value = tag } in
-    read_after u1 (behind_tag left) at bytes (one, b, u) first ∙ read_demand (allows left tag) place 4 (λ known. with_tag one) b u holds
+    read_after u1 (behind_tag left) at bytes (one, b, u) first ∙ read_demand (allows left tag) place cause.POOL (λ known. with_tag one) b u holds
     ∙ read_stops (content tag) (λ value. whole (record { at = place; value = value })) b u flaw second
 
 -- an allowed tag is a tag

@@ -2,6 +2,7 @@
 use Rattle.std.proofs.Common.{◌≡◌, ℕ, Bool, true, false, cond, not, List, [], ◌∷◌, Result, Ok, Err, refl, sym, ap, ◌∙◌}
 use Rattle.std.specs.Prelude.{Option, Some, None}
 use Rattle.std.specs.Option.{option_map}
+use Rattle.std.specs.Str.{byte}
 use Rattle.th_syntax.specs.declared.cause.TheConstants as cause
 use Rattle.th_syntax.specs.Flaws.{unless}
 use Rattle.th_syntax.specs.WellFormed.{is_class_name}
@@ -58,15 +59,15 @@ pub ruleset faults = (field_passes, field_refused, method_passes, method_refused
 
 -- ---- classes and arrays
 
-pub array_fault : (bytes : List ℕ) (fault : Option DescriptorFault) → has_front 91 bytes ≡ true → fault_numbers fault ≡ type_numbers (field_type_of bytes) → fault_numbers fault ≡ class_or_array_numbers bytes
+pub array_fault : (bytes : List ℕ) (fault : Option DescriptorFault) → has_front (byte "[") bytes ≡ true → fault_numbers fault ≡ type_numbers (field_type_of bytes) → fault_numbers fault ≡ class_or_array_numbers bytes
 array_fault [] fault front e = absurd cc
 array_fault (b ∷ bytes) fault front e = rw front e
 
-pub class_fine : (bytes : List ℕ) → has_front 91 bytes ≡ false → is_class_name bytes ≡ true → fault_numbers None ≡ class_or_array_numbers bytes
+pub class_fine : (bytes : List ℕ) → has_front (byte "[") bytes ≡ false → is_class_name bytes ≡ true → fault_numbers None ≡ class_or_array_numbers bytes
 class_fine [] front named = absurd cc
 class_fine (b ∷ bytes) front named = rw (front, named) refl
 
-pub class_wrong : (bytes : List ℕ) → has_front 91 bytes ≡ false → is_class_name bytes ≡ false → fault_numbers (Some Form) ≡ class_or_array_numbers bytes
+pub class_wrong : (bytes : List ℕ) → has_front (byte "[") bytes ≡ false → is_class_name bytes ≡ false → fault_numbers (Some Form) ≡ class_or_array_numbers bytes
 class_wrong [] front named = refl
 class_wrong (b ∷ bytes) front named = rw (front, named) refl
 

@@ -3,6 +3,7 @@ use Rattle.std.proofs.Common.{◌≡◌, ◌≢◌, ℕ, suc, ◌-◌, Bool, tru
 use Rattle.std.specs.Prelude.{Option, nat_lt}
 use Rattle.std.proofs.lemmas.Bool.{lt-ltb}
 use Rattle.std.proofs.lemmas.List.{append-nil}
+use Rattle.th_syntax.specs.declared.cause.TheConstants as cause
 use Rattle.th_syntax.specs.declared.refusal.Flaw.{Flaw}
 use Rattle.th_syntax.specs.Forms.{Form, whole, ◌>>=◌, Placed, Found, read}
 use Rattle.th_syntax.specs.ClassBytes.{Entry, Pool, slot, slots, takes_two, u2, demand, pool}
@@ -50,18 +51,18 @@ abbrev pub behind_count : Placed ℕ → Form Pool
 behind_count count = slots false (count.value - 1) >>= λ others. whole (None ∷ others)
 
 abbrev pub counted : Placed ℕ → Form Pool
-counted count = demand (nat_lt 0 count.value) count.at 4 >>= λ counts. behind_count count
+counted count = demand (nat_lt 0 count.value) count.at cause.POOL >>= λ counts. behind_count count
 
 pub pool_stops : (at : ℕ) (bytes : List ℕ) (flaw : Flaw) → read u2 at bytes ≡ Err flaw → read pool at bytes ≡ Err flaw
 unfolding pool
 pool_stops at bytes flaw e = read_stops u2 counted at bytes flaw e
 
-pub pool_empty : (at place count : ℕ) (bytes : List ℕ) (b : ℕ) (u : List ℕ) → read u2 at bytes ≡ Ok (record { at = place; value = count }, b, u) → count ≡ 0 → read pool at bytes ≡ Err (record { number = 4; offset = place })
+pub pool_empty : (at place count : ℕ) (bytes : List ℕ) (b : ℕ) (u : List ℕ) → read u2 at bytes ≡ Ok (record { at = place; value = count }, b, u) → count ≡ 0 → read pool at bytes ≡ Err (record { number = cause.POOL; offset = place })
 unfolding pool
 pool_empty at place count bytes b u first none =
     let one : Placed ℕ = record { at = place; value = count } in
     let fails : nat_lt 0 count ≡ false = rw none refl in
-    read_after u2 counted at bytes (one, b, u) first ∙ read_refusal (nat_lt 0 count) place 4 (λ counts. behind_count one) b u fails
+    read_after u2 counted at bytes (one, b, u) first ∙ read_refusal (nat_lt 0 count) place cause.POOL (λ counts. behind_count one) b u fails
 
 none_front : (r : Result (Found Pool) Flaw) (left at : ℕ) (bytes : List ℕ) → read (slots false left) at bytes ≡ r → read (slots false left >>= λ others. whole (None ∷ others)) at bytes ≡ with_front (None ∷ []) r
 none_front (Ok found) left at bytes e = read_after (slots false left) (λ others. whole (None ∷ others)) at bytes found e ∙ read_whole (None ∷ found.0) found.1 found.2
@@ -72,7 +73,7 @@ unfolding pool
 pool_is at place count bytes b u first some =
     let one : Placed ℕ = record { at = place; value = count } in
     let holds : nat_lt 0 count ≡ true = lt-ltb _ _ (omega arith) in
-    read_after u2 counted at bytes (one, b, u) first ∙ read_demand (nat_lt 0 count) place 4 (λ counts. behind_count one) b u holds
+    read_after u2 counted at bytes (one, b, u) first ∙ read_demand (nat_lt 0 count) place cause.POOL (λ counts. behind_count one) b u holds
     ∙ none_front (read (slots false (count - 1)) b u) (count - 1) b u refl
 
 pub ruleset pools = (pool_stops, pool_empty, pool_is)

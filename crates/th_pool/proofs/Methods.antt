@@ -10,6 +10,7 @@ use Rattle.th_pool.specs.declared.descriptor.ParsedType.{ParsedType}
 use Rattle.th_pool.specs.declared.parse.Params.{Params}
 use Rattle.th_pool.specs.declared.shape.DescriptorFault.TheVariants.{Form, FloatType}
 use Rattle.std.proofs.lemmas.List.{append-nil}
+use Rattle.std.specs.Str.{byte}
 use Rattle.th_pool.specs.Shapes.{slot_of, slot_size, field_shape, shape_of, method_shape}
 use Rattle.th_pool.specs.Types.{type_seen, summed, front_of}
 use Rattle.th_pool.specs.Params.{field_answer, params_of, pushed, joined, params_found, method_seen, method_answer, returns_well, returns_floating}
@@ -78,7 +79,7 @@ and_true false = refl
 none_more : (p : Params) → joined p (params_of []) ≡ p
 none_more p = rw (append-nil p.slots, or_false p.floating, and_true p.well_formed) refl
 
-pub params_end : (room : ℕ) (all : List ℕ) (b : ℕ) (bytes : List ℕ) (p : Params) (total : Option (Params × List ℕ)) → Some (b, bytes) ≡ front_of all → b ≡ 41 → with_params p (types_at (suc room) all) ≡ total → Some (p, bytes) ≡ total
+pub params_end : (room : ℕ) (all : List ℕ) (b : ℕ) (bytes : List ℕ) (p : Params) (total : Option (Params × List ℕ)) → Some (b, bytes) ≡ front_of all → b ≡ byte ")" → with_params p (types_at (suc room) all) ≡ total → Some (p, bytes) ≡ total
 unfolding types_at
 params_end room all b bytes p total front close so_far = sym (rw (front_is all b bytes front, close) (ap (λ (q : Params). (let o : Option (Params × List ℕ) = Some (q, bytes) in o)) (none_more p))) ∙ so_far
 
@@ -86,15 +87,15 @@ pub params_missing : (room : ℕ) (all : List ℕ) (p : Params) (total : Option 
 unfolding types_at
 params_missing room all p total front so_far = sym (rw (no_front all front) refl) ∙ so_far
 
-types_next : (room b : ℕ) (bytes : List ℕ) → b ≢ 41 → types_at (suc room) (b ∷ bytes) ≡ option_and_then (λ first. option_map (λ more. (first.0 ∷ more.0, more.1)) (types_at room first.1)) (type_at (b ∷ bytes))
+types_next : (room b : ℕ) (bytes : List ℕ) → b ≢ byte ")" → types_at (suc room) (b ∷ bytes) ≡ option_and_then (λ first. option_map (λ more. (first.0 ∷ more.0, more.1)) (types_at room first.1)) (type_at (b ∷ bytes))
 unfolding types_at
-types_next room b bytes other = rw (ne_eqb b 41 other) refl
+types_next room b bytes other = rw (ne_eqb b (byte ")") other) refl
 
 params_bad_at : (p : Params) (room : ℕ) (o : Option (FieldType × List ℕ)) → None ≡ option_map summed o → with_params p (option_and_then (λ first. option_map (λ more. (first.0 ∷ more.0, more.1)) (types_at room first.1)) o) ≡ None
 params_bad_at p room None e = refl
 params_bad_at p room (Some x) e = absurd cc
 
-pub params_bad : (room : ℕ) (all : List ℕ) (b : ℕ) (bytes : List ℕ) (p : Params) (total : Option (Params × List ℕ)) → Some (b, bytes) ≡ front_of all → b ≢ 41 → None ≡ option_map summed (type_at all) → with_params p (types_at (suc room) all) ≡ total → None ≡ total
+pub params_bad : (room : ℕ) (all : List ℕ) (b : ℕ) (bytes : List ℕ) (p : Params) (total : Option (Params × List ℕ)) → Some (b, bytes) ≡ front_of all → b ≢ byte ")" → None ≡ option_map summed (type_at all) → with_params p (types_at (suc room) all) ≡ total → None ≡ total
 params_bad room all b bytes p total front other bad so_far =
     let here = front_is all b bytes front in
     sym (ap (λ (bs : List ℕ). with_params p (types_at (suc room) bs)) here ∙ ap (with_params p) (types_next room b bytes other) ∙ params_bad_at p room (type_at (b ∷ bytes)) (bad ∙ ap (λ (bs : List ℕ). option_map summed (type_at bs)) here)) ∙ so_far
@@ -106,7 +107,7 @@ params_on_at p room (Some x) seen others e =
     let pair : (let q : ParsedType × List ℕ = (seen, others) in q) ≡ (type_seen x.0, x.1) = cc in
     joined_next p x.0 (types_at room x.1) ∙ ap (λ (q : ParsedType × List ℕ). with_params (pushed p q.0) (types_at room q.1)) (sym pair)
 
-pub params_on : (room : ℕ) (all : List ℕ) (b : ℕ) (bytes : List ℕ) (p : Params) (seen : ParsedType) (others : List ℕ) (total : Option (Params × List ℕ)) → Some (b, bytes) ≡ front_of all → b ≢ 41 → Some (seen, others) ≡ option_map summed (type_at all) → with_params p (types_at (suc room) all) ≡ total → with_params (pushed p seen) (types_at room others) ≡ total
+pub params_on : (room : ℕ) (all : List ℕ) (b : ℕ) (bytes : List ℕ) (p : Params) (seen : ParsedType) (others : List ℕ) (total : Option (Params × List ℕ)) → Some (b, bytes) ≡ front_of all → b ≢ byte ")" → Some (seen, others) ≡ option_map summed (type_at all) → with_params p (types_at (suc room) all) ≡ total → with_params (pushed p seen) (types_at room others) ≡ total
 params_on room all b bytes p seen others total front other found so_far =
     let here = front_is all b bytes front in
     sym (ap (λ (bs : List ℕ). with_params p (types_at (suc room) bs)) here ∙ ap (with_params p) (types_next room b bytes other) ∙ params_on_at p room (type_at (b ∷ bytes)) seen others (found ∙ ap (λ (bs : List ℕ). option_map summed (type_at bs)) here)) ∙ so_far
@@ -117,7 +118,7 @@ params_none all p total so_far = so_far
 
 -- ---- the result
 
-pub result_void : (all : List ℕ) (b : ℕ) (bytes : List ℕ) → Some (b, bytes) ≡ front_of all → (b == 86 && length bytes == 0) ≡ true → option_map (option_map type_seen) (result_at all) ≡ Some None
+pub result_void : (all : List ℕ) (b : ℕ) (bytes : List ℕ) → Some (b, bytes) ≡ front_of all → (b == byte "V" && length bytes == 0) ≡ true → option_map (option_map type_seen) (result_at all) ≡ Some None
 unfolding result_at
 result_void all b bytes front void = rw (front_is all b bytes front, void) refl
 
@@ -129,16 +130,16 @@ some_seen : (o : Option FieldType) → option_map (option_map type_seen) (option
 some_seen None = refl
 some_seen (Some x) = refl
 
-pub result_type_is : (all : List ℕ) (b : ℕ) (bytes : List ℕ) → Some (b, bytes) ≡ front_of all → (b == 86 && length bytes == 0) ≡ false → option_map (option_map type_seen) (result_at all) ≡ option_map (λ seen. (let t : Option ParsedType = Some seen in t)) (option_map type_seen (alone (type_at all)))
+pub result_type_is : (all : List ℕ) (b : ℕ) (bytes : List ℕ) → Some (b, bytes) ≡ front_of all → (b == byte "V" && length bytes == 0) ≡ false → option_map (option_map type_seen) (result_at all) ≡ option_map (λ seen. (let t : Option ParsedType = Some seen in t)) (option_map type_seen (alone (type_at all)))
 unfolding result_at
 result_type_is all b bytes front other =
     let here = front_is all b bytes front in
     ap (λ (bs : List ℕ). option_map (option_map type_seen) (result_at bs)) here ∙ rw other (some_seen (alone (type_at (b ∷ bytes)))) ∙ sym (ap (λ (bs : List ℕ). option_map (λ seen. (let t : Option ParsedType = Some seen in t)) (option_map type_seen (alone (type_at bs)))) here)
 
-pub result_some : (all : List ℕ) (b : ℕ) (bytes : List ℕ) (found : ParsedType) → Some (b, bytes) ≡ front_of all → (b == 86 && length bytes == 0) ≡ false → Some found ≡ option_map type_seen (alone (type_at all)) → option_map (option_map type_seen) (result_at all) ≡ Some (Some found)
+pub result_some : (all : List ℕ) (b : ℕ) (bytes : List ℕ) (found : ParsedType) → Some (b, bytes) ≡ front_of all → (b == byte "V" && length bytes == 0) ≡ false → Some found ≡ option_map type_seen (alone (type_at all)) → option_map (option_map type_seen) (result_at all) ≡ Some (Some found)
 result_some all b bytes found front other e = result_type_is all b bytes front other ∙ ap (λ (o : Option ParsedType). option_map (λ seen. (let t : Option ParsedType = Some seen in t)) o) (sym e)
 
-pub result_none : (all : List ℕ) (b : ℕ) (bytes : List ℕ) → Some (b, bytes) ≡ front_of all → (b == 86 && length bytes == 0) ≡ false → None ≡ option_map type_seen (alone (type_at all)) → option_map (option_map type_seen) (result_at all) ≡ None
+pub result_none : (all : List ℕ) (b : ℕ) (bytes : List ℕ) → Some (b, bytes) ≡ front_of all → (b == byte "V" && length bytes == 0) ≡ false → None ≡ option_map type_seen (alone (type_at all)) → option_map (option_map type_seen) (result_at all) ≡ None
 result_none all b bytes front other e = result_type_is all b bytes front other ∙ ap (λ (o : Option ParsedType). option_map (λ seen. (let t : Option ParsedType = Some seen in t)) o) (sym e)
 
 pub ruleset results = (result_void, result_missing, result_some, result_none)
@@ -149,11 +150,11 @@ pub method_missing : (all : List ℕ) → None ≡ front_of all → option_map m
 unfolding method_at
 method_missing all front = rw (no_front all front) refl
 
-pub method_closed : (all : List ℕ) (b : ℕ) (bytes : List ℕ) → Some (b, bytes) ≡ front_of all → b ≢ 40 → option_map method_seen (method_at all) ≡ None
+pub method_closed : (all : List ℕ) (b : ℕ) (bytes : List ℕ) → Some (b, bytes) ≡ front_of all → b ≢ byte "(" → option_map method_seen (method_at all) ≡ None
 unfolding method_at
-method_closed all b bytes front other = rw (front_is all b bytes front, ne_eqb b 40 other) refl
+method_closed all b bytes front other = rw (front_is all b bytes front, ne_eqb b (byte "(") other) refl
 
-method_open : (b : ℕ) (bytes : List ℕ) → b ≡ 40 → method_at (b ∷ bytes) ≡ option_and_then (λ params. option_map (λ result_type. (let m : MethodType = record { params = params.0; result_type = result_type } in m)) (result_at params.1)) (types_at (length bytes) bytes)
+method_open : (b : ℕ) (bytes : List ℕ) → b ≡ byte "(" → method_at (b ∷ bytes) ≡ option_and_then (λ params. option_map (λ result_type. (let m : MethodType = record { params = params.0; result_type = result_type } in m)) (result_at params.1)) (types_at (length bytes) bytes)
 unfolding method_at
 method_open b bytes open_it = rw open_it refl
 
@@ -161,7 +162,7 @@ no_params_at : (o : Option (List FieldType × List ℕ)) → None ≡ params_fou
 no_params_at None e = refl
 no_params_at (Some x) e = absurd cc
 
-pub method_no_params : (all : List ℕ) (b : ℕ) (bytes : List ℕ) → Some (b, bytes) ≡ front_of all → b ≡ 40 → None ≡ params_found (types_at (length bytes) bytes) → option_map method_seen (method_at all) ≡ None
+pub method_no_params : (all : List ℕ) (b : ℕ) (bytes : List ℕ) → Some (b, bytes) ≡ front_of all → b ≡ byte "(" → None ≡ params_found (types_at (length bytes) bytes) → option_map method_seen (method_at all) ≡ None
 method_no_params all b bytes front open_it e =
     ap (λ (bs : List ℕ). option_map method_seen (method_at bs)) (front_is all b bytes front) ∙ ap (option_map method_seen) (method_open b bytes open_it) ∙ no_params_at (types_at (length bytes) bytes) e
 
@@ -176,15 +177,15 @@ with_params_at (Some x) p rest e =
     let pair : (let q : Params × List ℕ = (p, rest) in q) ≡ (params_of x.0, x.1) = cc in
     result_to x.0 (result_at x.1) ∙ ap (λ (q : Params × List ℕ). option_map (λ seen. (let r : Params × Option ParsedType = (q.0, seen) in r)) (option_map (option_map type_seen) (result_at q.1))) (sym pair)
 
-method_by : (all : List ℕ) (b : ℕ) (bytes : List ℕ) (p : Params) (rest : List ℕ) → Some (b, bytes) ≡ front_of all → b ≡ 40 → Some (p, rest) ≡ params_found (types_at (length bytes) bytes) → option_map method_seen (method_at all) ≡ option_map (λ seen. (let q : Params × Option ParsedType = (p, seen) in q)) (option_map (option_map type_seen) (result_at rest))
+method_by : (all : List ℕ) (b : ℕ) (bytes : List ℕ) (p : Params) (rest : List ℕ) → Some (b, bytes) ≡ front_of all → b ≡ byte "(" → Some (p, rest) ≡ params_found (types_at (length bytes) bytes) → option_map method_seen (method_at all) ≡ option_map (λ seen. (let q : Params × Option ParsedType = (p, seen) in q)) (option_map (option_map type_seen) (result_at rest))
 method_by all b bytes p rest front open_it e =
     ap (λ (bs : List ℕ). option_map method_seen (method_at bs)) (front_is all b bytes front) ∙ ap (option_map method_seen) (method_open b bytes open_it) ∙ with_params_at (types_at (length bytes) bytes) p rest e
 
-pub method_no_result : (all : List ℕ) (b : ℕ) (bytes : List ℕ) (p : Params) (rest : List ℕ) → Some (b, bytes) ≡ front_of all → b ≡ 40 → Some (p, rest) ≡ params_found (types_at (length bytes) bytes) → None ≡ option_map (option_map type_seen) (result_at rest) → option_map method_seen (method_at all) ≡ None
+pub method_no_result : (all : List ℕ) (b : ℕ) (bytes : List ℕ) (p : Params) (rest : List ℕ) → Some (b, bytes) ≡ front_of all → b ≡ byte "(" → Some (p, rest) ≡ params_found (types_at (length bytes) bytes) → None ≡ option_map (option_map type_seen) (result_at rest) → option_map method_seen (method_at all) ≡ None
 method_no_result all b bytes p rest front open_it e none =
     method_by all b bytes p rest front open_it e ∙ ap (λ (o : Option (Option ParsedType)). option_map (λ seen. (let q : Params × Option ParsedType = (p, seen) in q)) o) (sym none)
 
-pub method_whole : (all : List ℕ) (b : ℕ) (bytes : List ℕ) (p : Params) (rest : List ℕ) (returned : Option ParsedType) → Some (b, bytes) ≡ front_of all → b ≡ 40 → Some (p, rest) ≡ params_found (types_at (length bytes) bytes) → Some returned ≡ option_map (option_map type_seen) (result_at rest) → option_map method_seen (method_at all) ≡ Some (p, returned)
+pub method_whole : (all : List ℕ) (b : ℕ) (bytes : List ℕ) (p : Params) (rest : List ℕ) (returned : Option ParsedType) → Some (b, bytes) ≡ front_of all → b ≡ byte "(" → Some (p, rest) ≡ params_found (types_at (length bytes) bytes) → Some returned ≡ option_map (option_map type_seen) (result_at rest) → option_map method_seen (method_at all) ≡ Some (p, returned)
 method_whole all b bytes p rest returned front open_it e found =
     method_by all b bytes p rest front open_it e ∙ ap (λ (o : Option (Option ParsedType)). option_map (λ seen. (let q : Params × Option ParsedType = (p, seen) in q)) o) (sym found)
 

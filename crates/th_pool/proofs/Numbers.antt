@@ -1,5 +1,6 @@
 -- A number is read as the run of its bytes is.
 use Rattle.std.proofs.Common.{◌≡◌, ℕ, ◌+◌, Bool, true, false, cond, ltb, List, [], ◌∷◌, length, take, drop, get_or, Result, Ok, Err, refl, ap, arith}
+use Rattle.th_syntax.specs.declared.cause.TheConstants as cause
 use Rattle.byteorder.specs.Endian.{big_number}
 use Rattle.th_syntax.specs.declared.refusal.Flaw.{Flaw}
 use Rattle.th_syntax.specs.Forms.{Placed, Found, read, number_of}
@@ -14,7 +15,7 @@ pub number_read : (n at : ℕ) (bytes : List ℕ) (x : Placed (List ℕ)) (behin
 unfolding read run number
 number_read n at bytes x behind others e =
     let found : Found (Placed (List ℕ)) = (record { at = at; value = take n bytes }, at + n, drop n bytes) in
-    let t = same_test (ltb (length bytes) n) (record { number = 2; offset = at }) found (x, behind, others) e in
+    let t = same_test (ltb (length bytes) n) (record { number = cause.TRUNCATED; offset = at }) found (x, behind, others) e in
     let same : (let f : Found (Placed ℕ) = (record { at = at; value = number_of (take n bytes) }, at + n, drop n bytes) in f) ≡ (record { at = at; value = number_of x.value }, behind, others) =
     ap (λ (f : Found (Placed (List ℕ))). let g : Found (Placed ℕ) = (record { at = at; value = number_of f.0.value }, f.1, f.2) in g) t.1 in
     rw t.0 (ap (λ (f : Found (Placed ℕ)). let r : Result (Found (Placed ℕ)) Flaw = Ok f in r) same)
@@ -28,7 +29,7 @@ unfolding read run number
 number_stops n at bytes flaw e =
     let found : Found (Placed (List ℕ)) = (record { at = at; value = take n bytes }, at + n, drop n bytes) in
     let other : Found (Placed ℕ) = (record { at = at; value = number_of (take n bytes) }, at + n, drop n bytes) in
-    err_test (ltb (length bytes) n) (record { number = 2; offset = at }) flaw found other e
+    err_test (ltb (length bytes) n) (record { number = cause.TRUNCATED; offset = at }) flaw found other e
 
 -- ---- a number as byteorder reads it
 

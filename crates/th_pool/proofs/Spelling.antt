@@ -5,6 +5,8 @@ use Rattle.std.specs.Option.{option_map}
 use Rattle.std.proofs.lemmas.Bool.{ne_eqb}
 use Rattle.std.proofs.lemmas.List.{append-nil}
 use Rattle.std.proofs.Math.Seq.{drop-cons, take-suc}
+use Rattle.std.specs.Str.{byte}
+use Rattle.th_syntax.specs.declared.limit.TheConstants.{MOST_DIMENSIONS}
 use Rattle.th_syntax.specs.WellFormed.{is_class_name}
 use Rattle.th_syntax.specs.Descriptors.{FieldType, class_type, array_type, dimensions, is_named_well, is_type, is_floating, base_type, name_before, element_at, type_at}
 use Rattle.th_pool.specs.declared.descriptor.ParsedType.{ParsedType}
@@ -18,11 +20,11 @@ use Rattle.th_pool.specs.Types.{type_seen, summed, arrayed, arrays, with_dimensi
 abbrev pub passed : ℕ → List ℕ → Option (List ℕ × List ℕ) → Option (List ℕ × List ℕ)
 passed i bytes found = option_map (λ x. (take i bytes ++ x.0, x.1)) found
 
-name_goes_on : (b : ℕ) (bytes : List ℕ) → b ≢ 59 → name_before (b ∷ bytes) ≡ option_map (λ x. (b ∷ x.0, x.1)) (name_before bytes)
+name_goes_on : (b : ℕ) (bytes : List ℕ) → b ≢ byte ";" → name_before (b ∷ bytes) ≡ option_map (λ x. (b ∷ x.0, x.1)) (name_before bytes)
 unfolding name_before
-name_goes_on b bytes other = rw (ne_eqb b 59 other) refl
+name_goes_on b bytes other = rw (ne_eqb b (byte ";") other) refl
 
-name_ends : (b : ℕ) (bytes : List ℕ) → b ≡ 59 → name_before (b ∷ bytes) ≡ Some ([], bytes)
+name_ends : (b : ℕ) (bytes : List ℕ) → b ≡ byte ";" → name_before (b ∷ bytes) ≡ Some ([], bytes)
 unfolding name_before
 name_ends b bytes is = rw is refl
 
@@ -30,12 +32,12 @@ regroup : (i b : ℕ) (bytes : List ℕ) (o : Option (List ℕ × List ℕ)) →
 regroup i b bytes None e = refl
 regroup i b bytes (Some x) e = ap (λ (front : List ℕ). (let o : Option (List ℕ × List ℕ) = Some (front, x.1) in o)) (rw e (append_assoc (take i bytes) (b ∷ []) x.0))
 
-pub name_next : (i : ℕ) (bytes : List ℕ) → i < length bytes → get_or bytes i 0 ≢ 59 → passed (suc i) bytes (name_before (drop (suc i) bytes)) ≡ passed i bytes (name_before (drop i bytes))
+pub name_next : (i : ℕ) (bytes : List ℕ) → i < length bytes → get_or bytes i 0 ≢ byte ";" → passed (suc i) bytes (name_before (drop (suc i) bytes)) ≡ passed i bytes (name_before (drop i bytes))
 name_next i bytes lt other =
     let here : drop i bytes ≡ get_or bytes i 0 ∷ drop (suc i) bytes = drop-cons bytes i 0 lt in
     regroup i (get_or bytes i 0) bytes (name_before (drop (suc i) bytes)) (take-suc bytes i 0 lt) ∙ ap (passed i bytes) (sym (ap name_before here ∙ name_goes_on (get_or bytes i 0) (drop (suc i) bytes) other))
 
-pub name_found : (i : ℕ) (bytes : List ℕ) → i < length bytes → get_or bytes i 0 ≡ 59 → passed i bytes (name_before (drop i bytes)) ≡ Some (take i bytes, drop (suc i) bytes)
+pub name_found : (i : ℕ) (bytes : List ℕ) → i < length bytes → get_or bytes i 0 ≡ byte ";" → passed i bytes (name_before (drop i bytes)) ≡ Some (take i bytes, drop (suc i) bytes)
 name_found i bytes lt is =
     let here : drop i bytes ≡ get_or bytes i 0 ∷ drop (suc i) bytes = drop-cons bytes i 0 lt in
     ap (passed i bytes) (ap name_before here ∙ name_ends (get_or bytes i 0) (drop (suc i) bytes) is) ∙ ap (λ (front : List ℕ). (let o : Option (List ℕ × List ℕ) = Some (front, drop (suc i) bytes) in o)) (append-nil (take i bytes))
@@ -65,26 +67,26 @@ pub nothing_seen : (all : List ℕ) → None ≡ front_of all → option_map sum
 unfolding element_at
 nothing_seen all e = rw (no_front all e) refl
 
-pub class_some : (all : List ℕ) (b : ℕ) (bytes name rest : List ℕ) (named : Bool) → Some (b, bytes) ≡ front_of all → b ≡ 76 → Some (name, rest) ≡ name_before bytes → named ≡ is_class_name name → option_map summed (element_at all) ≡ Some (record { slot = Ref; floating = false; well_formed = named }, rest)
+pub class_some : (all : List ℕ) (b : ℕ) (bytes name rest : List ℕ) (named : Bool) → Some (b, bytes) ≡ front_of all → b ≡ byte "L" → Some (name, rest) ≡ name_before bytes → named ≡ is_class_name name → option_map summed (element_at all) ≡ Some (record { slot = Ref; floating = false; well_formed = named }, rest)
 unfolding element_at
 class_some all b bytes name rest named front letter e is = rw (front_is all b bytes front, letter, sym e, is, true_too (is_class_name name)) refl
 
-pub class_none : (all : List ℕ) (b : ℕ) (bytes : List ℕ) → Some (b, bytes) ≡ front_of all → b ≡ 76 → None ≡ name_before bytes → option_map summed (element_at all) ≡ None
+pub class_none : (all : List ℕ) (b : ℕ) (bytes : List ℕ) → Some (b, bytes) ≡ front_of all → b ≡ byte "L" → None ≡ name_before bytes → option_map summed (element_at all) ≡ None
 unfolding element_at
 class_none all b bytes front letter e = rw (front_is all b bytes front, letter, sym e) refl
 
-letter_is : (b : ℕ) (bytes : List ℕ) → b ≢ 76 → element_at (b ∷ bytes) ≡ option_map (λ type. (type, bytes)) (base_type b)
+letter_is : (b : ℕ) (bytes : List ℕ) → b ≢ byte "L" → element_at (b ∷ bytes) ≡ option_map (λ type. (type, bytes)) (base_type b)
 unfolding element_at
-letter_is b bytes other = rw (ne_eqb b 76 other) refl
+letter_is b bytes other = rw (ne_eqb b (byte "L") other) refl
 
 seen_with : (bytes : List ℕ) (o : Option FieldType) → option_map summed (option_map (λ type. (type, bytes)) o) ≡ option_map (λ seen. (seen, bytes)) (option_map type_seen o)
 seen_with bytes None = refl
 seen_with bytes (Some x) = refl
 
-pub letter_some : (all : List ℕ) (b : ℕ) (bytes : List ℕ) (seen : ParsedType) → Some (b, bytes) ≡ front_of all → b ≢ 76 → Some seen ≡ option_map type_seen (base_type b) → option_map summed (element_at all) ≡ Some (seen, bytes)
+pub letter_some : (all : List ℕ) (b : ℕ) (bytes : List ℕ) (seen : ParsedType) → Some (b, bytes) ≡ front_of all → b ≢ byte "L" → Some seen ≡ option_map type_seen (base_type b) → option_map summed (element_at all) ≡ Some (seen, bytes)
 letter_some all b bytes seen front other e = rw (front_is all b bytes front, letter_is b bytes other, seen_with bytes (base_type b), sym e) refl
 
-pub letter_none : (all : List ℕ) (b : ℕ) (bytes : List ℕ) → Some (b, bytes) ≡ front_of all → b ≢ 76 → None ≡ option_map type_seen (base_type b) → option_map summed (element_at all) ≡ None
+pub letter_none : (all : List ℕ) (b : ℕ) (bytes : List ℕ) → Some (b, bytes) ≡ front_of all → b ≢ byte "L" → None ≡ option_map type_seen (base_type b) → option_map summed (element_at all) ≡ None
 letter_none all b bytes front other e = rw (front_is all b bytes front, letter_is b bytes other, seen_with bytes (base_type b), sym e) refl
 
 pub ruleset elements = (nothing_seen, class_some, class_none, letter_some, letter_none)
@@ -95,15 +97,15 @@ one_more : (n : ℕ) (o : Option (FieldType × List ℕ)) → with_dimensions (s
 one_more n None = refl
 one_more n (Some x) = refl
 
-pub array_next : (n : ℕ) (bytes : List ℕ) → n < length bytes → get_or bytes n 0 ≡ 91 → with_dimensions (suc n) (type_at (drop (suc n) bytes)) ≡ with_dimensions n (type_at (drop n bytes))
+pub array_next : (n : ℕ) (bytes : List ℕ) → n < length bytes → get_or bytes n 0 ≡ byte "[" → with_dimensions (suc n) (type_at (drop (suc n) bytes)) ≡ with_dimensions n (type_at (drop n bytes))
 unfolding type_at
 array_next n bytes lt is = one_more n (type_at (drop (suc n) bytes)) ∙ ap (with_dimensions n) (sym (ap type_at (drop-cons bytes n 0 lt) ∙ rw is refl))
 
-element_next : (b : ℕ) (bytes : List ℕ) → b ≢ 91 → type_at (b ∷ bytes) ≡ element_at (b ∷ bytes)
+element_next : (b : ℕ) (bytes : List ℕ) → b ≢ byte "[" → type_at (b ∷ bytes) ≡ element_at (b ∷ bytes)
 unfolding type_at
-element_next b bytes other = rw (ne_eqb b 91 other) refl
+element_next b bytes other = rw (ne_eqb b (byte "[") other) refl
 
-pub element_here : (n : ℕ) (bytes : List ℕ) → n < length bytes → get_or bytes n 0 ≢ 91 → type_at (drop n bytes) ≡ element_at (drop n bytes)
+pub element_here : (n : ℕ) (bytes : List ℕ) → n < length bytes → get_or bytes n 0 ≢ byte "[" → type_at (drop n bytes) ≡ element_at (drop n bytes)
 element_here n bytes lt other =
     let here : drop n bytes ≡ get_or bytes n 0 ∷ drop (suc n) bytes = drop-cons bytes n 0 lt in
     ap type_at here ∙ element_next (get_or bytes n 0) (drop (suc n) bytes) other ∙ sym (ap element_at here)
@@ -133,13 +135,13 @@ arrays_slot (suc n) element = arrays_slot n (array_type element)
 -- an element type isn't an array
 pub arrays_seen : (n : ℕ) (type : FieldType) → dimensions type ≡ 0 → type_seen (arrays n type) ≡ arrayed (type_seen type) n
 arrays_seen zero type flat =
-    let named : (is_type type && nat_le 0 255) ≡ is_type type = true_too (is_type type) in
+    let named : (is_type type && nat_le 0 MOST_DIMENSIONS) ≡ is_type type = true_too (is_type type) in
     rw named refl
 arrays_seen (suc n) type flat =
     let dims : dimensions (arrays n (array_type type)) ≡ suc n = arrays_dimensions n (array_type type) ∙ omega arith in
     let named : is_named_well (arrays n (array_type type)) ≡ is_named_well type = arrays_named n (array_type type) in
     let floats : is_floating (arrays n (array_type type)) ≡ is_floating type = arrays_floating n (array_type type) in
-    let plain : (is_named_well type && nat_le 0 255) ≡ is_named_well type = true_too (is_named_well type) in
+    let plain : (is_named_well type && nat_le 0 MOST_DIMENSIONS) ≡ is_named_well type = true_too (is_named_well type) in
     let some : (suc n == 0) ≡ false = ne_eqb _ _ (omega arith) in
     rw (dims, named, floats, arrays_slot n type, flat, plain, some) refl
 
@@ -170,7 +172,7 @@ flat_letter (Some type) bytes x flat e = let same : (let t : FieldType × List �
 element_flat : (bytes : List ℕ) (x : FieldType × List ℕ) → element_at bytes ≡ Some x → dimensions x.0 ≡ 0
 unfolding element_at
 element_flat [] x e = absurd cc
-element_flat (b ∷ bytes) x e = go (b == 76) e
+element_flat (b ∷ bytes) x e = go (b == byte "L") e
   where
     go : (t : Bool) → cond t (option_map (λ n. (class_type n.0, n.1)) (name_before bytes)) (option_map (λ type. (type, bytes)) (base_type b)) ≡ Some x → dimensions x.0 ≡ 0
     go true is = flat_name (name_before bytes) x is

@@ -1,11 +1,10 @@
 -- The texts of a pool stand where its entries do.
-use Rattle.std.proofs.Common.{◌≡◌, ℕ, zero, suc, List, [], ◌∷◌, map, refl, ap, ◌∙◌}
-use Rattle.std.specs.Prelude.{Option, Some, None, slice_get}
-use Rattle.std.specs.Option.{option_map, option_flatten}
-use Rattle.th_syntax.specs.Forms.{Placed}
-use Rattle.th_syntax.specs.ClassBytes.{Entry, Pool}
+use Rattle.std.proofs.Common.{◌≡◌, ℕ, zero, suc, List, [], ◌∷◌, refl, ap, ◌∙◌}
+use Rattle.std.specs.Prelude.{Option, slice_get}
+use Rattle.std.specs.Option.{option_flatten}
+use Rattle.th_syntax.specs.ClassBytes.{Pool}
 use Rattle.th_syntax.specs.PoolChecks.{utf8_of}
-use Rattle.th_pool.specs.Texts.{slot_text, texts_in}
+use Rattle.th_pool.specs.Texts.{texts_in}
 
 in_place : (pool : Pool) (i : ℕ) → option_flatten (slice_get (texts_in pool) i) ≡ utf8_of pool i
 in_place [] i = refl

@@ -3,6 +3,7 @@ use Rattle.std.specs.Prelude.{ℕ, List, [], ◌∷◌, ◌++◌, map, nat_le, s
 use Rattle.std.specs.List.{list_any, list_all}
 use Rattle.std.specs.Borrow.{Bor}
 use Rattle.std.specs.Option.{option_map}
+use Rattle.th_syntax.specs.declared.limit.TheConstants.{MOST_PARAMETER_SLOTS}
 use Rattle.th_syntax.specs.Descriptors.{FieldType, MethodType, is_type, is_floating}
 use Rattle.th_pool.specs.declared.descriptor.ParsedType.{ParsedType}
 use Rattle.th_pool.specs.declared.parse.Params.{Params}
@@ -16,14 +17,19 @@ use Rattle.th_pool.specs.Types.{type_seen}
 -- the answer for a field by what was seen of its type
 abbrev pub field_answer : Option ParsedType → Result FieldShape DescriptorFault
 field_answer None = Err Form
-field_answer (Some seen) = if seen.well_formed then (if seen.floating then Err FloatType else Ok (record { slot = seen.slot })) else Err Form
+field_answer (Some seen) =
+    if seen.well_formed then (if seen.floating then Err FloatType else Ok (record { slot = seen.slot })) else Err Form
 
 abbrev pub params_of : List FieldType → Params
 params_of types = record { slots = map slot_of types; floating = list_any is_floating types; well_formed = list_all is_type types }
 
 -- parameters with one more
 abbrev pub pushed : Params → ParsedType → Params
-pushed p seen = record { slots = p.slots ++ seen.slot ∷ []; floating = p.floating || seen.floating; well_formed = p.well_formed && seen.well_formed }
+pushed p seen = record {
+  slots = p.slots ++ seen.slot ∷ [];
+  floating = p.floating || seen.floating;
+  well_formed = p.well_formed && seen.well_formed;
+}
 
 -- parameters, and those behind them
 abbrev pub joined : Params → Params → Params
@@ -49,9 +55,13 @@ abbrev pub returns_floating : Option ParsedType → Bool
 returns_floating None = false
 returns_floating (Some seen) = seen.floating
 
--- the answer for a method by what was seen of its parameters and its result
+-- the shape of a method by what was seen of its parameters and its result
+abbrev pub shape_seen : Params → Option ParsedType → MethodShape
+shape_seen p returned = record { params = p.slots; result = option_map (λ seen. seen.slot) returned }
+
+-- the answer for a method by the same
 abbrev pub method_answer : Params → Option ParsedType → Result MethodShape DescriptorFault
 method_answer p returned =
-    if p.well_formed && returns_well returned && nat_le (sum_by slot_size p.slots) 255
-    then (if p.floating || returns_floating returned then Err FloatType else Ok (record { params = p.slots; result = option_map (λ seen. seen.slot) returned }))
+    if p.well_formed && returns_well returned && nat_le (sum_by slot_size p.slots) MOST_PARAMETER_SLOTS
+    then (if p.floating || returns_floating returned then Err FloatType else Ok (shape_seen p returned))
     else Err Form

@@ -2,6 +2,7 @@
 use Rattle.std.specs.Prelude.{ℕ, zero, suc, ◌==◌, ◌&&◌, nat_le, List, [], ◌∷◌, Option, Some, None, if◌then◌else◌}
 use Rattle.std.specs.Borrow.{Bor}
 use Rattle.std.specs.Option.{option_map}
+use Rattle.th_syntax.specs.declared.limit.TheConstants.{MOST_DIMENSIONS}
 use Rattle.th_syntax.specs.Descriptors.{FieldType, array_type, is_type, is_floating}
 use Rattle.th_pool.specs.declared.descriptor.ParsedType.{ParsedType}
 use Rattle.th_pool.specs.declared.shape.Slot.TheVariants.{Ref}
@@ -19,7 +20,11 @@ seen found = option_map (λ x. (x.0, x.1.now)) found
 
 -- an array type of so many dimensions, or the element where there are none
 abbrev pub arrayed : ParsedType → ℕ → ParsedType
-arrayed element n = record { slot = (if n == 0 then element.slot else Ref); floating = element.floating; well_formed = element.well_formed && nat_le n 255 }
+arrayed element n = record {
+  slot = if n == 0 then element.slot else Ref;
+  floating = element.floating;
+  well_formed = element.well_formed && nat_le n MOST_DIMENSIONS;
+}
 
 -- the element type inside so many dimensions
 abbrev pub arrays : ℕ → FieldType → FieldType

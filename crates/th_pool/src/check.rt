@@ -41,7 +41,7 @@ fn flaw_of(slots: &[Option<PlacedEntry>], slot: Option<PlacedEntry>) -> Option<F
 }
 
 // The first entry that doesn't lead to entries of the right tags.
-pub fn check_entries(slots: &[Option<PlacedEntry>]) -> Result<(), Flaw>
+pub(crate) fn check_entries(slots: &[Option<PlacedEntry>]) -> Result<(), Flaw>
     ensures { BeginsWith (checks.entry_flaws (slots_view slots.now)) result }
 {
     for slot in slots {

@@ -1,6 +1,7 @@
 // Reading an entry of the pool.
 ghost use Rattle.std.specs.Prelude.{◌≡◌, true, ◌≤◌, ◌+◌, ◌*◌, ◌^◌};
 ghost use Rattle.std.specs.Int.{w64, cast_signed};
+ghost use Rattle.th_syntax.specs.declared.tag.TheConstants as tags;
 ghost use Rattle.th_syntax.specs.Forms.{read};
 ghost use Rattle.th_syntax.specs.ClassBytes as file;
 ghost use Rattle.th_pool.specs.Gives.{Gives};
@@ -12,7 +13,7 @@ use crate::place::Place;
 use th_syntax::{Flaw, tag};
 
 // Whether there are entries of this tag (Java specification, table 4.4-A).
-pub fn is_tag(tag: u8) -> bool
+pub(crate) fn is_tag(tag: u8) -> bool
     ensures { result ≡ file.is_tag tag }
 {
     tag == tag::UTF8
@@ -23,7 +24,7 @@ pub fn is_tag(tag: u8) -> bool
 }
 
 // Whether an entry of this tag takes two indices.
-pub fn is_wide(tag: u8) -> bool
+pub(crate) fn is_wide(tag: u8) -> bool
     ensures { result ≡ file.is_wide tag }
 {
     tag == tag::LONG || tag == tag::DOUBLE
@@ -39,7 +40,7 @@ fn long_of(high: u32, low: u32) -> i64
 // What stands behind the tag of an entry that refers to others.
 #[tactic(auto, using(crate::proofs::Contents::references))]
 fn reference(tag: u8, place: Place) -> Result<(Entry, Place), Flaw>
-    requires { 7 ≤ tag }
+    requires { tags.CLASS ≤ tag }
     ensures { Gives entry_view result (read (file.content tag) place.entry.at place.entry.rest.now) }
 {
     match tag {
@@ -84,7 +85,7 @@ fn reference(tag: u8, place: Place) -> Result<(Entry, Place), Flaw>
 
 // What stands behind a tag.
 #[tactic(auto, using(crate::proofs::Contents::values))]
-pub fn content(tag: u8, place: Place) -> Result<(Entry, Place), Flaw>
+pub(crate) fn content(tag: u8, place: Place) -> Result<(Entry, Place), Flaw>
     requires { file.is_tag tag ≡ true }
     ensures { Gives entry_view result (read (file.content tag) place.entry.at place.entry.rest.now) }
 {

@@ -7,10 +7,11 @@ ghost use Rattle.th_pool.specs.Types.{arrayed, front_of, front_seen, seen, summe
 
 use crate::names::is_class_name;
 use crate::shape::Slot;
+use th_syntax::limit::MOST_DIMENSIONS;
 
 // What shapes ask of a type.
 #[derive(Clone, Copy, Debug)]
-pub struct ParsedType {
+pub(crate) struct ParsedType {
     pub slot: Slot,
     // It is float or double, or an array of these.
     pub floating: bool,
@@ -52,7 +53,7 @@ fn name_before(bytes: &[u8]) -> Option<(&[u8], &[u8])>
 }
 
 // The first byte, and those behind it.
-pub fn split_front(bytes: &[u8]) -> Option<(u8, &[u8])>
+pub(crate) fn split_front(bytes: &[u8]) -> Option<(u8, &[u8])>
     ensures { front_seen result ≡ front_of bytes.now }
 {
     if bytes.is_empty() {
@@ -105,13 +106,13 @@ fn array_of(element: ParsedType, dimensions: usize) -> ParsedType
             Slot::Ref
         },
         floating: element.floating,
-        well_formed: element.well_formed && dimensions <= 255,
+        well_formed: element.well_formed && dimensions <= MOST_DIMENSIONS,
     }
 }
 
 // The type at the front, and the bytes behind it.
 #[tactic(auto, using(crate::proofs::Spelling::arrays_read))]
-pub fn type_at(bytes: &[u8]) -> Option<(ParsedType, &[u8])>
+pub(crate) fn type_at(bytes: &[u8]) -> Option<(ParsedType, &[u8])>
     ensures { seen result ≡ option_map summed (types.type_at bytes.now) }
 {
     let dimensions = dimensions_at(bytes);

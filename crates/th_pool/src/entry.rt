@@ -1,9 +1,9 @@
 // Entries of the pool, as they are kept.
 
-/// An entry (Java specification 4.4). Numbers are indices of entries. Of the entries without a
-/// value nothing is looked at.
+// An entry (Java specification 4.4). Numbers are indices of entries. Of the entries without a
+// value nothing is looked at.
 #[derive(Clone, Copy, Debug)]
-pub enum Entry<'a> {
+pub(crate) enum Entry<'a> {
     Utf8(&'a [u8]),
     Integer(i32),
     Float,
@@ -20,9 +20,9 @@ pub enum Entry<'a> {
     InvokeDynamic,
 }
 
-/// An entry, and the offset of its tag in the file.
+// An entry, and the offset of its tag in the file.
 #[derive(Clone, Copy, Debug)]
-pub struct PlacedEntry<'a> {
+pub(crate) struct PlacedEntry<'a> {
     pub at: u32,
     pub entry: Entry<'a>,
 }

@@ -56,7 +56,7 @@ pub fn u4(place: Place) -> Result<(u32, Place), Flaw>
 
 // A length, and as many bytes.
 #[tactic(auto, using(crate::proofs::Parts::parts))]
-pub fn text(place: Place) -> Result<(&[u8], Place), Flaw>
+pub(crate) fn text(place: Place) -> Result<(&[u8], Place), Flaw>
     ensures { Gives behind result (read text place.entry.at place.entry.rest.now) }
 {
     let (len, place) = u2(place)?;
@@ -66,7 +66,7 @@ pub fn text(place: Place) -> Result<(&[u8], Place), Flaw>
 
 // The kind of a method handle, and an index.
 #[tactic(auto, using(crate::proofs::Parts::parts))]
-pub fn handle(place: Place) -> Result<((u8, u16), Place), Flaw>
+pub(crate) fn handle(place: Place) -> Result<((u8, u16), Place), Flaw>
     ensures { Gives pair_of result (read handle place.entry.at place.entry.rest.now) }
 {
     let (kind, place) = u1(place)?;
@@ -76,7 +76,7 @@ pub fn handle(place: Place) -> Result<((u8, u16), Place), Flaw>
 
 // Two indices.
 #[tactic(auto, using(crate::proofs::Parts::parts))]
-pub fn two_indices(place: Place) -> Result<((u16, u16), Place), Flaw>
+pub(crate) fn two_indices(place: Place) -> Result<((u16, u16), Place), Flaw>
     ensures { Gives pair_of result (read two_indices place.entry.at place.entry.rest.now) }
 {
     let (first, place) = u2(place)?;
@@ -86,7 +86,7 @@ pub fn two_indices(place: Place) -> Result<((u16, u16), Place), Flaw>
 
 // Two numbers of four bytes.
 #[tactic(auto, using(crate::proofs::Parts::parts))]
-pub fn two_words(place: Place) -> Result<((u32, u32), Place), Flaw>
+pub(crate) fn two_words(place: Place) -> Result<((u32, u32), Place), Flaw>
     ensures { Gives pair_of result (read two_words place.entry.at place.entry.rest.now) }
 {
     let (high, place) = u4(place)?;

@@ -10,10 +10,10 @@ use crate::pool_text::PoolText;
 use th_syntax::tag;
 
 // A field or a method: the tag of its entry, its owner, its name and its descriptor.
-pub type NamedMember<'a> = (u8, &'a [u8], &'a [u8], &'a [u8]);
+pub(crate) type NamedMember<'a> = (u8, &'a [u8], &'a [u8], &'a [u8]);
 
 // The entry at an index; none where the index leads to none.
-pub fn entry_of<'a>(slots: &[Option<PlacedEntry<'a>>], index: u16) -> Option<Entry<'a>>
+pub(crate) fn entry_of<'a>(slots: &[Option<PlacedEntry<'a>>], index: u16) -> Option<Entry<'a>>
     ensures { option_map entry_view result ≡ checks.entry_of (slots_view slots.now) index }
 {
     match slots.get(index as usize) {
@@ -23,7 +23,7 @@ pub fn entry_of<'a>(slots: &[Option<PlacedEntry<'a>>], index: u16) -> Option<Ent
 }
 
 // The tag of an entry.
-pub fn tag_of(entry: Entry) -> u8
+pub(crate) fn tag_of(entry: Entry) -> u8
     ensures { result ≡ file.tag_of (entry_view entry.entry) }
 {
     match entry {
@@ -45,7 +45,7 @@ pub fn tag_of(entry: Entry) -> u8
 }
 
 // The tag of the entry at an index.
-pub fn tag_at(slots: &[Option<PlacedEntry>], index: u16) -> Option<u8>
+pub(crate) fn tag_at(slots: &[Option<PlacedEntry>], index: u16) -> Option<u8>
     ensures { result ≡ checks.tag_at (slots_view slots.now) index }
 {
     match entry_of(slots, index) {
@@ -55,7 +55,7 @@ pub fn tag_at(slots: &[Option<PlacedEntry>], index: u16) -> Option<u8>
 }
 
 // Whether an index leads to an entry of this tag.
-pub fn has_tag(slots: &[Option<PlacedEntry>], index: u16, tag: u8) -> bool
+pub(crate) fn has_tag(slots: &[Option<PlacedEntry>], index: u16, tag: u8) -> bool
     ensures { result ≡ checks.has_tag (slots_view slots.now) index tag }
 {
     match tag_at(slots, index) {
@@ -65,7 +65,7 @@ pub fn has_tag(slots: &[Option<PlacedEntry>], index: u16, tag: u8) -> bool
 }
 
 // The bytes of a Utf8 entry.
-pub fn utf8_of<'a>(slots: &[Option<PlacedEntry<'a>>], index: u16) -> Option<&'a [u8]>
+pub(crate) fn utf8_of<'a>(slots: &[Option<PlacedEntry<'a>>], index: u16) -> Option<&'a [u8]>
     ensures { option_copied result ≡ checks.utf8_of (slots_view slots.now) index }
 {
     match entry_of(slots, index) {
@@ -75,7 +75,7 @@ pub fn utf8_of<'a>(slots: &[Option<PlacedEntry<'a>>], index: u16) -> Option<&'a 
 }
 
 // The number of an Integer entry.
-pub fn integer_of(slots: &[Option<PlacedEntry>], index: u16) -> Option<i32>
+pub(crate) fn integer_of(slots: &[Option<PlacedEntry>], index: u16) -> Option<i32>
     ensures { result ≡ checks.integer_of (slots_view slots.now) index }
 {
     match entry_of(slots, index) {
@@ -85,7 +85,7 @@ pub fn integer_of(slots: &[Option<PlacedEntry>], index: u16) -> Option<i32>
 }
 
 // The number of a Long entry.
-pub fn long_of(slots: &[Option<PlacedEntry>], index: u16) -> Option<i64>
+pub(crate) fn long_of(slots: &[Option<PlacedEntry>], index: u16) -> Option<i64>
     ensures { result ≡ checks.long_of (slots_view slots.now) index }
 {
     match entry_of(slots, index) {
@@ -95,7 +95,7 @@ pub fn long_of(slots: &[Option<PlacedEntry>], index: u16) -> Option<i64>
 }
 
 // The name that a Class entry leads to.
-pub fn class_of<'a>(slots: &[Option<PlacedEntry<'a>>], index: u16) -> Option<&'a [u8]>
+pub(crate) fn class_of<'a>(slots: &[Option<PlacedEntry<'a>>], index: u16) -> Option<&'a [u8]>
     ensures { option_copied result ≡ checks.class_of (slots_view slots.now) index }
 {
     match entry_of(slots, index) {
@@ -105,7 +105,7 @@ pub fn class_of<'a>(slots: &[Option<PlacedEntry<'a>>], index: u16) -> Option<&'a
 }
 
 // The text that a String entry leads to.
-pub fn string_of<'a>(slots: &[Option<PlacedEntry<'a>>], index: u16) -> Option<&'a [u8]>
+pub(crate) fn string_of<'a>(slots: &[Option<PlacedEntry<'a>>], index: u16) -> Option<&'a [u8]>
     ensures { option_copied result ≡ checks.string_of (slots_view slots.now) index }
 {
     match entry_of(slots, index) {
@@ -141,7 +141,10 @@ fn member_by<'a>(
 }
 
 // The member that a Fieldref, Methodref or InterfaceMethodref entry leads to, with its tag.
-pub fn member_of<'a>(slots: &[Option<PlacedEntry<'a>>], index: u16) -> Option<NamedMember<'a>>
+pub(crate) fn member_of<'a>(
+    slots: &[Option<PlacedEntry<'a>>],
+    index: u16,
+) -> Option<NamedMember<'a>>
     ensures { member_view result ≡ checks.tagged_member_of (slots_view slots.now) index }
 {
     match entry_of(slots, index) {
@@ -169,7 +172,7 @@ pub struct PoolMember<'a> {
 }
 
 // The text at an index, of the list of the texts.
-pub fn text_at(texts: &[Option<PoolText>], index: u16) -> Option<&PoolText>
+pub(crate) fn text_at(texts: &[Option<PoolText>], index: u16) -> Option<&PoolText>
     ensures { option_copied result ≡ option_flatten (slice_get texts.now index) }
 {
     match texts.get(index as usize) {

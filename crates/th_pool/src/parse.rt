@@ -1,6 +1,7 @@
 // The shapes of descriptors.
 ghost use Rattle.std.specs.Prelude.{◌≡◌, ◌==◌, ◌&&◌, IfOk, OnOk, length, nat_le, sum_by};
 ghost use Rattle.std.specs.Option.{option_map};
+ghost use Rattle.std.specs.Str.{byte};
 ghost use Rattle.th_syntax.specs.Descriptors as types;
 ghost use Rattle.th_pool.specs.Shapes.{AnswersShape, field_shape, method_shape, slot_size};
 ghost use Rattle.th_pool.specs.Types.{type_seen};
@@ -12,10 +13,11 @@ use crate::descriptor::{ParsedType, split_front, type_at};
 use crate::shape::{DescriptorFault, FieldShape, MethodShape, Slot};
 use std::alloc::{AllocError, Global};
 use th_base::{Fail, Seq, Text};
+use th_syntax::limit::MOST_PARAMETER_SLOTS;
 
 // What shapes ask of parameters.
 #[derive(Debug, Drop)]
-pub struct Params {
+pub(crate) struct Params {
     pub slots: Seq<Slot>,
     // One of them has float or double.
     pub floating: bool,
@@ -109,7 +111,7 @@ fn params_at(alloc: Global, bytes: &[u8]) -> Result<Option<(Params, &[u8])>, All
 
 // Whether these bytes are a `V` and nothing more.
 fn is_void(letter: u8, rest: &[u8]) -> bool
-    ensures { result ≡ (letter == 86 && length rest.now == 0) }
+    ensures { result ≡ (letter == byte "V" && length rest.now == 0) }
 {
     letter == b'V' && rest.is_empty()
 }
@@ -156,21 +158,21 @@ fn size_of(slot: Slot) -> usize
     }
 }
 
-// Whether parameters take 255 slots at most.
+// Whether parameters take no more slots than there may be.
 fn have_room(slots: &[Slot]) -> bool
-    ensures { result ≡ nat_le (sum_by slot_size slots.now) 255 }
+    ensures { result ≡ nat_le (sum_by slot_size slots.now) MOST_PARAMETER_SLOTS }
 {
     let mut total: usize = 0;
     for slot in slots {
         total += size_of(*slot);
-        if total > 255 {
+        if total > MOST_PARAMETER_SLOTS {
             return false;
         }
     }
     true
 }
 
-// Whether there is a result, and it fails the test.
+// The shape of a method, or what is wrong with its descriptor.
 fn method_of(params: Params, returned: Option<ParsedType>) -> Result<MethodShape, DescriptorFault>
     ensures { result ≡ method_answer params returned }
 {

@@ -3,6 +3,7 @@ ghost use Rattle.std.specs.Prelude.{◌≡◌, IfOk};
 ghost use Rattle.std.specs.List.{list_any};
 ghost use Rattle.std.specs.Prelude.{◌==◌};
 ghost use Rattle.std.specs.Option.{option_map};
+ghost use Rattle.std.specs.Str.{byte};
 ghost use Rattle.th_syntax.specs.WellFormed as names;
 ghost use Rattle.th_syntax.specs.Descriptors.{field_type_of, method_type_of};
 ghost use Rattle.th_syntax.specs.CodeBytes.{class_or_array_numbers, is_callable, method_type_numbers, type_numbers};
@@ -19,7 +20,7 @@ use th_base::Text;
 
 // What a text is as a name and as a descriptor.
 #[derive(Clone, Copy, Debug)]
-pub struct TextFacts {
+pub(crate) struct TextFacts {
     pub class_name: bool,
     pub field_name: bool,
     pub method_name: bool,
@@ -49,14 +50,14 @@ impl Model for PoolText {
 }
 
 fn is_angled(bytes: &[u8]) -> bool
-    ensures { result ≡ list_any (λ b. b == 60) bytes.now }
+    ensures { result ≡ list_any (λ b. b == byte "<") bytes.now }
 {
     bytes.iter().any(|byte| *byte == b'<')
 }
 
 // Whether the bytes begin as an array type's descriptor does.
 fn is_array(bytes: &[u8]) -> bool
-    ensures { result ≡ has_front 91 bytes.now }
+    ensures { result ≡ has_front (byte "[") bytes.now }
 {
     !bytes.is_empty() && bytes[0] == b'['
 }
@@ -167,7 +168,7 @@ fn text_in(alloc: Global, slot: Option<PlacedEntry>) -> Result<Option<PoolText>,
 }
 
 // The text that each index leads to, where it leads to a Utf8 entry.
-pub fn texts_of(
+pub(crate) fn texts_of(
     alloc: Global,
     slots: &[Option<PlacedEntry>],
 ) -> Result<Vec<Option<PoolText>>, AllocError>

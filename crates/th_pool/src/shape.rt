@@ -1,5 +1,6 @@
 // What descriptors ask for.
 use std::alloc::{AllocError, Global};
+use std::fmt;
 use th_base::{Same, Seq, TryCopy};
 
 /// What a value takes of the local variables and of the operand stack: an `Int` and a `Ref` one slot,
@@ -31,6 +32,15 @@ pub enum DescriptorFault {
     Form,
     /// It is a descriptor that has `float` or `double`.
     FloatType,
+}
+
+impl fmt::Display for DescriptorFault {
+    fn fmt<W: fmt::Write>(&self, f: &mut fmt::Formatter<W>) -> fmt::Result {
+        match self {
+            DescriptorFault::Form => write!(f, "the descriptor is ill-formed"),
+            DescriptorFault::FloatType => write!(f, "the descriptor has float or double"),
+        }
+    }
 }
 
 impl TryCopy for Slot {

@@ -16,7 +16,7 @@ use th_base::Fail;
 use th_syntax::{Flaw, cause};
 
 // What each index of a pool leads to, from index 0 on.
-pub type Slots<'a> = Vec<Option<PlacedEntry<'a>>>;
+pub(crate) type Slots<'a> = Vec<Option<PlacedEntry<'a>>>;
 
 // Whether an entry of this tag may stand where `left` more indices follow its own.
 fn is_allowed(tag: u8, left: u16) -> bool
@@ -94,7 +94,10 @@ fn read_slots<'a>(
 
 // What the indices of the pool lead to whose count stands at a place.
 #[tactic(auto, using(crate::proofs::Loop::pools))]
-pub fn pool_slots<'a>(alloc: Global, place: Place<'a>) -> Result<(Slots<'a>, Place<'a>), Fail<Flaw>>
+pub(crate) fn pool_slots<'a>(
+    alloc: Global,
+    place: Place<'a>,
+) -> Result<(Slots<'a>, Place<'a>), Fail<Flaw>>
     ensures { Answers (λ x. (slots_view x.0.items, x.1.at, x.1.rest.now)) result (read file.pool place.entry.at place.entry.rest.now) }
 {
     let (count, after) = match u2(place) {

@@ -13,7 +13,17 @@ behind_pool major entries = do
   fields ← counted member
   methods ← counted member
   attributes ← counted attribute
-  whole (record { major = major; pool = entries; access = access; this_class = this_class; super_class = super_class; interfaces = interfaces; fields = fields; methods = methods; attributes = attributes })
+  whole (record {
+    major = major;
+    pool = entries;
+    access = access;
+    this_class = this_class;
+    super_class = super_class;
+    interfaces = interfaces;
+    fields = fields;
+    methods = methods;
+    attributes = attributes;
+  })
 
 -- what follows the version
 abbrev pub behind_version : ℕ → Form RawClass

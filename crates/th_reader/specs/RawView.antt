@@ -35,7 +35,12 @@ abbrev pub attributes_of : Vec RawAttribute Global → List file.Attribute
 attributes_of v = attributes_view v.items
 
 abbrev pub member_view : RawMember → file.RawMember
-member_view m = record { access = index_view m.access; name = index_view m.name; descriptor = index_view m.descriptor; attributes = attributes_of m.attributes }
+member_view m = record {
+  access = index_view m.access;
+  name = index_view m.name;
+  descriptor = index_view m.descriptor;
+  attributes = attributes_of m.attributes;
+}
 
 abbrev pub members_of : Vec RawMember Global → List file.RawMember
 members_of v = map member_view v.items
@@ -54,4 +59,10 @@ class_view c = record {
 }
 
 abbrev pub code_view : RawCode → file.RawCode
-code_view c = record { max_stack = c.max_stack; max_locals = c.max_locals; length = word_view c.length; bytes = bytes_view c.bytes; handlers = c.handlers }
+code_view c = record {
+  max_stack = c.max_stack;
+  max_locals = c.max_locals;
+  length = word_view c.length;
+  bytes = bytes_view c.bytes;
+  handlers = c.handlers;
+}
