@@ -6,10 +6,9 @@ ghost use Rattle.th_linker.specs.Checking.{AreNumbered};
 use crate::classes::Classes;
 use std::alloc::{AllocError, Global};
 use th_base::{ClassId, ClassInfo, FieldId, FieldInfo, MethodId, MethodInfo, Seq, Text};
-use th_syntax::{ACC_ABSTRACT, ACC_INTERFACE, ACC_STATIC, ClassFile, Member, has_flag};
-
-// The access flag of what only its own class may use (Java specification, table 4.6-A).
-const ACC_PRIVATE: u16 = 0x0002;
+use th_syntax::{
+    ACC_ABSTRACT, ACC_INTERFACE, ACC_PRIVATE, ACC_STATIC, ClassFile, Member, has_flag,
+};
 
 // All the classes, whose fields and methods are numbered in order.
 pub(crate) fn class_infos(alloc: Global, classes: &Classes) -> Result<Vec<ClassInfo>, AllocError>

@@ -34,7 +34,8 @@ abbrev pub attribute_index_flaws : Pool → Attribute → List Flaw
 attribute_index_flaws pool a = index_flaws pool tag.UTF8 a.name
 
 abbrev pub member_index_flaws : Pool → RawMember → List Flaw
-member_index_flaws pool m = index_flaws pool tag.UTF8 m.name ++ (index_flaws pool tag.UTF8 m.descriptor ++ flat_map (attribute_index_flaws pool) m.attributes)
+member_index_flaws pool m =
+    index_flaws pool tag.UTF8 m.name ++ (index_flaws pool tag.UTF8 m.descriptor ++ flat_map (attribute_index_flaws pool) m.attributes)
 
 -- the entries of the pool, this_class, super_class, the interfaces, the names and descriptors of
 -- members, and the names of attributes
@@ -106,7 +107,8 @@ constant_in pool (Some int_type) index = option_map constant.Int (integer_of poo
 constant_in pool (Some short_type) index = option_map constant.Int (integer_of pool index)
 constant_in pool (Some boolean_type) index = option_map constant.Int (integer_of pool index)
 constant_in pool (Some long_type) index = option_map constant.Long (long_of pool index)
-constant_in pool (Some (class_type name)) index = if bytes_eq name (codes "java/lang/String") then option_map constant.Str (string_of pool index) else None
+constant_in pool (Some (class_type name)) index =
+    if bytes_eq name (codes "java/lang/String") then option_map constant.Str (string_of pool index) else None
 constant_in pool other index = None
 
 -- the type of a field
@@ -123,7 +125,8 @@ again_flaws attributes = map (λ (a : Attribute). flaw_at cause.ATTRIBUTE a.name
 
 abbrev pub constant_flaws_of : Pool → RawMember → List Attribute → List Flaw
 constant_flaws_of pool f [] = []
-constant_flaws_of pool f (first ∷ others) = unless (is_some (constant_of pool f first)) (flaw_at cause.ATTRIBUTE first.name.at) ++ again_flaws others
+constant_flaws_of pool f (first ∷ others) =
+    unless (is_some (constant_of pool f first)) (flaw_at cause.ATTRIBUTE first.name.at) ++ again_flaws others
 
 -- A static field's ConstantValue attribute stands once, and holds a constant of the field's type; else
 -- it is refused at its name. An instance field's is skipped (Java specification 4.7.2).

@@ -237,7 +237,17 @@ class_file = do
   fields ← counted member
   methods ← counted member
   attributes ← counted attribute
-  whole (record { major = major.value; pool = entries; access = access; this_class = this_class; super_class = super_class; interfaces = interfaces; fields = fields; methods = methods; attributes = attributes })
+  whole (record {
+    major = major.value;
+    pool = entries;
+    access = access;
+    this_class = this_class;
+    super_class = super_class;
+    interfaces = interfaces;
+    fields = fields;
+    methods = methods;
+    attributes = attributes;
+  })
 
 -- the magic number that a class file begins with
 abbrev pub magic : List ℕ

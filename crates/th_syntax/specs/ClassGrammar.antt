@@ -23,7 +23,8 @@ all_there (None ∷ more) = None
 all_there (Some x ∷ more) = option_map (λ xs. x ∷ xs) (all_there more)
 
 abbrev pub code_value : Pool → RawCode → Code
-code_value pool raw = record { max_stack = raw.max_stack; max_locals = raw.max_locals; instrs = instrs_in pool raw.bytes.value; handlers = raw.handlers }
+code_value pool raw =
+    record { max_stack = raw.max_stack; max_locals = raw.max_locals; instrs = instrs_in pool raw.bytes.value; handlers = raw.handlers }
 
 -- a method's code: that of its Code attribute, where it has one
 abbrev pub code_among : Pool → List Attribute → Option (Option Code)
@@ -39,12 +40,14 @@ abbrev pub constant_of_field : Pool → RawMember → Option (Option Constant)
 constant_of_field pool f = if has_flag f.access.value ACC_STATIC then constant_among pool f (constant_values pool f) else Some None
 
 abbrev pub member_with : RawMember → Option Constant → Option Code → List ℕ → List ℕ → Member
-member_with m constant code name descriptor = record { access = m.access.value; name = name; descriptor = descriptor; constant = constant; code = code }
+member_with m constant code name descriptor =
+    record { access = m.access.value; name = name; descriptor = descriptor; constant = constant; code = code }
 
 -- a member under the name and the descriptor that its indices lead to
 abbrev pub named : Pool → RawMember → Option Constant → Option Code → Option Member
 named pool m constant code =
-    option_and_then (λ name. option_map (λ descriptor. member_with m constant code name descriptor) (utf8_of pool m.descriptor.value)) (utf8_of pool m.name.value)
+    option_and_then (λ name. option_map (λ descriptor. member_with m constant code name descriptor) (utf8_of pool m.descriptor.value))
+    (utf8_of pool m.name.value)
 
 abbrev pub field_value : Pool → RawMember → Option Member
 field_value pool f = option_and_then (λ constant. named pool f constant None) (constant_of_field pool f)
@@ -69,7 +72,15 @@ method_values c = all_there (map (method_value c.pool) c.methods)
 unfoldable pub class_file_of : RawClass → Option ClassFile
 class_file_of c =
     option_and_then (λ name. option_and_then (λ super_name. option_and_then (λ interfaces. option_and_then (λ fields. option_map (λ methods.
-    record { major = c.major; access = c.access.value; name = name; super_name = super_name; interfaces = interfaces; fields = fields; methods = methods })
+    record {
+      major = c.major;
+      access = c.access.value;
+      name = name;
+      super_name = super_name;
+      interfaces = interfaces;
+      fields = fields;
+      methods = methods;
+    })
     (method_values c)) (field_values c)) (interface_values c)) (super_value c)) (class_of c.pool c.this_class.value)
 
 -- ---- the relation

@@ -91,7 +91,8 @@ flows_well instrs more i = list_all (is_start instrs) (leads_to (offset_behind m
 -- the flaws of the flow of these instructions, the last of a code array
 abbrev pub flow_flaws_from : List (ℕ × Instr) → ℕ → List (ℕ × Instr) → List Flaw
 flow_flaws_from instrs at [] = []
-flow_flaws_from instrs at (one ∷ more) = unless (flows_well instrs more one.1) (flaw_at cause.CODE_SHAPE (at + one.0)) ++ flow_flaws_from instrs at more
+flow_flaws_from instrs at (one ∷ more) =
+    unless (flows_well instrs more one.1) (flaw_at cause.CODE_SHAPE (at + one.0)) ++ flow_flaws_from instrs at more
 
 unfoldable pub flow_flaws : ℕ → List (ℕ × Instr) → List Flaw
 flow_flaws at instrs = flow_flaws_from instrs at instrs
@@ -123,4 +124,5 @@ code_flaws pool code =
 pub data AreSpelled (pool : Pool) : ℕ → List ℕ → List (ℕ × Instr) → Type 0 where
   none : {pc : ℕ} → AreSpelled pool pc [] []
   more : {pc : ℕ} {bytes : List ℕ} (i : Instr) (behind : ℕ) (others : List ℕ) (instrs : List (ℕ × Instr))
-      → Stands (instruction pool) pc bytes (instr i) behind others → AreSpelled pool behind others instrs → AreSpelled pool pc bytes ((pc, i) ∷ instrs)
+      → Stands (instruction pool) pc bytes (instr i) behind others → AreSpelled pool behind others instrs
+      → AreSpelled pool pc bytes ((pc, i) ∷ instrs)

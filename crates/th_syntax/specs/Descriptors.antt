@@ -151,12 +151,14 @@ types_at (suc room) (b ∷ bytes) =
 
 unfoldable pub result_at : List ℕ → Option (Option FieldType)
 result_at [] = None
-result_at (b ∷ bytes) = if b == byte "V" && length bytes == 0 then Some None else option_map (λ type. Some type) (alone (type_at (b ∷ bytes)))
+result_at (b ∷ bytes) =
+    if b == byte "V" && length bytes == 0 then Some None else option_map (λ type. Some type) (alone (type_at (b ∷ bytes)))
 
 unfoldable pub method_at : List ℕ → Option MethodType
 method_at [] = None
 method_at (b ∷ bytes) =
-    if b == byte "(" then option_and_then (λ params. option_map (λ result_type. record { params = params.0; result_type = result_type }) (result_at params.1)) (types_at (length bytes) bytes)
+    if b == byte "(" then option_and_then (λ params. option_map (λ result_type. record { params = params.0; result_type = result_type })
+    (result_at params.1)) (types_at (length bytes) bytes)
     else None
 
 -- the parameters and the result of a method's descriptor

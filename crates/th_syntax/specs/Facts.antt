@@ -34,7 +34,8 @@ pub record IsReachedInstr (files : List ClassFile) (i : Instr) : Type 0 where
 pub record IsOriginal (files : List ClassFile) (field : ℕ) (v : Value) : Type 0 where
   pub declared : Owned
   pub numbered : slice_get (fields_of files) field ≡ Some declared
-  pub value : (v ≡ default_value declared.member.descriptor) ⊎ ((c : Constant) × (declared.member.constant ≡ Some c) × (v ≡ constant_value files c))
+  pub value : (v ≡ default_value declared.member.descriptor)
+      ⊎ ((c : Constant) × (declared.member.constant ≡ Some c) × (v ≡ constant_value files c))
 
 -- a `putstatic` of the program that is reached resolves to the field
 pub record IsStoredInto (files : List ClassFile) (field : ℕ) : Type 0 where

@@ -15,8 +15,10 @@ pub data FirstFlaw (bytes : List ℕ) (flaw : Flaw) : Type 0 where
   -- the items that lie within the bytes end before one that goes past the end, or where nothing may follow
   items : (others : List ℕ) → bytes ≡ magic ++ others → IsFlawed class_file 4 others flaw → FirstFlaw bytes flaw
   -- bytes follow the last item
-  trailing : (others : List ℕ) (class : RawClass) (behind : ℕ) (more : List ℕ) → bytes ≡ magic ++ others → Stands class_file 4 others class behind more → 0 < length more → flaw ≡ flaw_at cause.TRAILING behind → FirstFlaw bytes flaw
+  trailing : (others : List ℕ) (class : RawClass) (behind : ℕ) (more : List ℕ) → bytes ≡ magic ++ others
+      → Stands class_file 4 others class behind more → 0 < length more → flaw ≡ flaw_at cause.TRAILING behind → FirstFlaw bytes flaw
   -- the items are whole, and a pass finds flaws where those before it find none
   indices : (class : RawClass) → IsWhole bytes class → IsFirst (second_pass class) flaw → FirstFlaw bytes flaw
   names : (class : RawClass) → IsWhole bytes class → second_pass class ≡ [] → IsFirst (third_pass class) flaw → FirstFlaw bytes flaw
-  content : (class : RawClass) → IsWhole bytes class → second_pass class ≡ [] → third_pass class ≡ [] → IsFirst (fourth_pass class) flaw → FirstFlaw bytes flaw
+  content : (class : RawClass) → IsWhole bytes class → second_pass class ≡ [] → third_pass class ≡ [] → IsFirst (fourth_pass class) flaw
+      → FirstFlaw bytes flaw

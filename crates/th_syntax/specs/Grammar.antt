@@ -142,7 +142,8 @@ is_text_at pool index text = option_map_or (λ found. bytes_eq found text) (text
 -- a method, whose one attribute is named `Code` (Java specification 4.7.3)
 abbrev pub method_value : List PoolEntry → MethodLayout → Option Member
 method_value pool m =
-    if is_text_at pool m.attribute (codes "Code") then option_and_then (λ code. member_value pool m.access (Some code) m.name m.descriptor) (code_value pool m) else None
+    if is_text_at pool m.attribute (codes "Code") then option_and_then (λ code. member_value pool m.access (Some code) m.name m.descriptor)
+    (code_value pool m) else None
 
 -- the class file of these items
 abbrev pub class_with : FileLayout → List ℕ → List ℕ → List Member → List Member → ClassFile
@@ -153,8 +154,10 @@ class_with f name super fields methods =
 abbrev pub class_file_of : FileLayout → Option ClassFile
 class_file_of f =
     if list_all (is_sound_entry f.pool) f.pool
-    then option_and_then (λ name. option_and_then (λ super. option_and_then (λ fields. option_map (λ methods. class_with f name super fields methods)
-    (all_there (map (method_value f.pool) f.methods))) (all_there (map (field_value f.pool) f.fields))) (class_at f.pool f.super_class)) (class_at f.pool f.this_class)
+    then option_and_then (λ name. option_and_then (λ super. option_and_then
+    (λ fields. option_map (λ methods. class_with f name super fields methods)
+    (all_there (map (method_value f.pool) f.methods))) (all_there (map (field_value f.pool) f.fields))) (class_at f.pool f.super_class))
+    (class_at f.pool f.this_class)
     else None
 
 -- the bytes are a class file, and stand for this value

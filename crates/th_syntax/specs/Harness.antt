@@ -27,7 +27,8 @@ is_idle (f ∷ fs) = false
 -- the method that a handler selects on the object at an address
 abbrev pub handler_method : List ClassFile → List Object → ℕ → HandlerMethod → Option ℕ
 handler_method files heap a h =
-    option_and_then (λ c. option_map (λ id. id.0) (selected_method (hierarchy_of files) c h.name h.descriptor)) (option_and_then class_of (slice_get heap a))
+    option_and_then (λ c. option_map (λ id. id.0) (selected_method (hierarchy_of files) c h.name h.descriptor))
+    (option_and_then class_of (slice_get heap a))
 
 -- the Bundle that a handler takes, as an argument: null, or the object at an address
 abbrev pub bundle_argument : HandlerMethod → Bool → ℕ → List Slot
@@ -49,7 +50,8 @@ handler_begun files s place l h fresh stage frame = record s {
 abbrev pub handled : List ClassFile → State → ℕ → Launched → HandlerMethod → Bool → ℕ → State
 handled files s place l h fresh stage =
     option_map_or (handler_begun files s place l h fresh stage)
-    (option_and_then (λ m. frame_of files m (Holds (Address l.object) ∷ bundle_argument h fresh (length s.heap))) (handler_method files s.heap l.object h))
+    (option_and_then (λ m. frame_of files m (Holds (Address l.object) ∷ bundle_argument h fresh (length s.heap)))
+    (handler_method files s.heap l.object h))
     (ended_state s)
 
 -- a call of a handler, where the lifecycle allows it at the object's stage
@@ -59,7 +61,8 @@ handled_by lifecycle files s place fresh l h = option_map (handled files s place
 -- a call of a handler, by its place, on the launched object at a place
 abbrev pub handled_at : Lifecycle → List ClassFile → State → ℕ → Bool → ℕ → Option State
 handled_at lifecycle files s handler fresh place =
-    option_and_then (λ l. option_and_then (handled_by lifecycle files s place fresh l) (slice_get handlers handler)) (slice_get s.launched place)
+    option_and_then (λ l. option_and_then (handled_by lifecycle files s place fresh l) (slice_get handlers handler))
+    (slice_get s.launched place)
 
 -- a launch of a class, or a call of a handler on a launched object with a fresh Bundle or with null
 abbrev pub happened : Lifecycle → List ClassFile → State → Event → Option State

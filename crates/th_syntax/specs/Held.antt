@@ -12,7 +12,8 @@ object_size o = suc (length (parts_of o))
 
 -- a code frame counts its locals and the limit of its operand stack; other frames nothing
 abbrev pub frame_size : List ClassFile → Frame → ℕ
-frame_size files (CodeFrame method offset locals stack) = option_map_or (λ code. code.max_locals + code.max_stack) (code_of files method.0) 0
+frame_size files (CodeFrame method offset locals stack) =
+    option_map_or (λ code. code.max_locals + code.max_stack) (code_of files method.0) 0
 frame_size files (InitFrame class stage) = 0
 frame_size files (LaunchFrame class stage) = 0
 

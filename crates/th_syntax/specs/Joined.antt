@@ -9,7 +9,8 @@ use Rattle.th_base.specs.ValueKinds.{is_reference}
 -- a value leads to the object at an address through zero or more instance fields and elements
 pub data Leads (heap : List Object) (to : ℕ) : Value → Type 0 where
   here : Leads heap to (Address to)
-  through : {a : ℕ} {v : Value} (o : Object) → slice_get heap a ≡ Some o → Contains (parts_of o) v → Leads heap to v → Leads heap to (Address a)
+  through : {a : ℕ} {v : Value} (o : Object) → slice_get heap a ≡ Some o → Contains (parts_of o) v → Leads heap to v
+      → Leads heap to (Address a)
 
 -- the object's class is exactly this one
 abbrev pub IsOfClass : Object → ℕ → Type 0

@@ -67,13 +67,15 @@ string_of pool index = option_and_then (string_in pool) (entry_of pool index)
 
 -- the name and the descriptor of a NameAndType entry (Java specification 4.4.6)
 abbrev pub names_in : Pool → Entry → Option (List ℕ × List ℕ)
-names_in pool (name_and_type name descriptor) = option_and_then (λ n. option_map (λ d. (n, d)) (utf8_of pool descriptor)) (utf8_of pool name)
+names_in pool (name_and_type name descriptor) =
+    option_and_then (λ n. option_map (λ d. (n, d)) (utf8_of pool descriptor)) (utf8_of pool name)
 names_in pool other = None
 
 -- the member of a class that a NameAndType entry names
 abbrev pub member_by : Pool → ℕ → ℕ → Option MemberRef
 member_by pool owner named =
-    option_and_then (λ o. option_map (λ n. record { owner = o; name = n.0; descriptor = n.1 }) (option_and_then (names_in pool) (entry_of pool named))) (class_of pool owner)
+    option_and_then (λ o. option_map (λ n. record { owner = o; name = n.0; descriptor = n.1 })
+    (option_and_then (names_in pool) (entry_of pool named))) (class_of pool owner)
 
 abbrev pub member_in : Pool → Entry → Option MemberRef
 member_in pool (field owner named) = member_by pool owner named

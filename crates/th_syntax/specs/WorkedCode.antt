@@ -132,7 +132,8 @@ worked_pool =
 -- the tags of the entries at these indices, and at 0, 6 and 48, which lead to nothing
 abbrev pub worked_tags : List (ℕ × Option ℕ)
 worked_tags =
-    (0, None) ∷ (1, Some 1) ∷ (2, Some 7) ∷ (3, Some 3) ∷ (4, Some 4) ∷ (5, Some 5) ∷ (6, None) ∷ (7, Some 6) ∷ (9, Some 8) ∷ (12, Some 12) ∷ (14, Some 9)
+    (0, None) ∷ (1, Some 1) ∷ (2, Some 7) ∷ (3, Some 3) ∷ (4, Some 4) ∷ (5, Some 5) ∷ (6, None) ∷ (7, Some 6) ∷ (9, Some 8) ∷ (12, Some 12)
+    ∷ (14, Some 9)
     ∷ (15, Some 10) ∷ (16, Some 11) ∷ (17, Some 15) ∷ (18, Some 16) ∷ (19, Some 18) ∷ (48, None) ∷ []
 
 -- entries, and whether each of them would lead to entries of the right tags
@@ -195,7 +196,8 @@ worked_instrs =
       170 ∷ 255 ∷ 255 ∷ 255 ∷ 89 ∷ 255 ∷ 255 ∷ 255 ∷ 255 ∷ 0 ∷ 0 ∷ 0 ∷ 1 ∷ 0 ∷ 0 ∷ 0 ∷ 0 ∷ 255 ∷ 255 ∷ 255 ∷ 89 ∷ 0 ∷ 0 ∷ 0 ∷ 0 ∷ [],
       TableSwitch (negsuc 0) (167 ∷ 0 ∷ 167 ∷ []) 0,
     ) ∷ (
-      171 ∷ 9 ∷ 9 ∷ 9 ∷ 255 ∷ 255 ∷ 255 ∷ 64 ∷ 0 ∷ 0 ∷ 0 ∷ 2 ∷ 255 ∷ 255 ∷ 255 ∷ 251 ∷ 0 ∷ 0 ∷ 0 ∷ 0 ∷ 0 ∷ 0 ∷ 0 ∷ 7 ∷ 255 ∷ 255 ∷ 255 ∷ 64 ∷ [],
+      171 ∷ 9 ∷ 9 ∷ 9 ∷ 255 ∷ 255 ∷ 255 ∷ 64 ∷ 0 ∷ 0 ∷ 0 ∷ 2 ∷ 255 ∷ 255 ∷ 255 ∷ 251 ∷ 0 ∷ 0 ∷ 0 ∷ 0 ∷ 0 ∷ 0 ∷ 0 ∷ 7 ∷ 255 ∷ 255 ∷ 255 ∷ 64
+          ∷ [],
       LookupSwitch ((negsuc 4, 192) ∷ (pos 7, 0) ∷ []) 0,
     ) ∷
     (172 ∷ [], IReturn) ∷ (173 ∷ [], LReturn) ∷ (176 ∷ [], AReturn) ∷ (177 ∷ [], Return) ∷
@@ -210,7 +212,8 @@ worked_instrs =
     (189 ∷ 0 ∷ 2 ∷ [], ANewArray (codes "A")) ∷ (189 ∷ 0 ∷ 31 ∷ [], ANewArray (codes "[I")) ∷ (190 ∷ [], ArrayLength) ∷
     (191 ∷ [], Throw) ∷ (192 ∷ 0 ∷ 2 ∷ [], CheckCast (codes "A")) ∷ (192 ∷ 0 ∷ 31 ∷ [], CheckCast (codes "[I")) ∷
     (193 ∷ 0 ∷ 2 ∷ [], InstanceOf (codes "A")) ∷
-    (193 ∷ 0 ∷ 31 ∷ [], InstanceOf (codes "[I")) ∷ (182 ∷ 0 ∷ 37 ∷ [], InvokeVirtual array_method) ∷ (194 ∷ [], MonitorEnter) ∷ (195 ∷ [], MonitorExit) ∷
+    (193 ∷ 0 ∷ 31 ∷ [], InstanceOf (codes "[I")) ∷ (182 ∷ 0 ∷ 37 ∷ [], InvokeVirtual array_method) ∷ (194 ∷ [], MonitorEnter)
+    ∷ (195 ∷ [], MonitorExit) ∷
     (196 ∷ 21 ∷ 1 ∷ 2 ∷ [], ILoad 258) ∷ (196 ∷ 22 ∷ 1 ∷ 2 ∷ [], LLoad 258) ∷ (196 ∷ 25 ∷ 1 ∷ 2 ∷ [], ALoad 258) ∷
     (196 ∷ 54 ∷ 1 ∷ 2 ∷ [], IStore 258) ∷ (196 ∷ 55 ∷ 1 ∷ 2 ∷ [], LStore 258) ∷ (196 ∷ 58 ∷ 1 ∷ 2 ∷ [], AStore 258) ∷
     (196 ∷ 132 ∷ 1 ∷ 2 ∷ 255 ∷ 0 ∷ [], Inc 258 (negsuc 255)) ∷ (200 ∷ 0 ∷ 0 ∷ 0 ∷ 5 ∷ [], Goto 331) ∷ (177 ∷ [], Return) ∷ []
@@ -336,7 +339,14 @@ taken_codes =
 
 -- the content of a Code attribute that names this length, at the offset 7
 abbrev pub code_of_length : ℕ → RawCode
-code_of_length n = record { max_stack = 0; max_locals = 0; length = record { at = 7; value = n }; bytes = record { at = 11; value = 0 ∷ 177 ∷ [] }; handlers = 0 }
+code_of_length n =
+    record {
+      max_stack = 0;
+      max_locals = 0;
+      length = record { at = 7; value = n };
+      bytes = record { at = 11; value = 0 ∷ 177 ∷ [] };
+      handlers = 0;
+    }
 
 -- lengths of code, and the flaws that they make
 abbrev pub code_lengths : List (ℕ × List Flaw)

@@ -36,7 +36,15 @@ method access name descriptor locals instrs = record {
 
 abbrev pub class_named : ℕ → List ℕ → List ℕ → List (List ℕ) → List Member → List Member → ClassFile
 class_named access name super interfaces fields methods =
-    record { major = 52; access = access; name = name; super_name = Some super; interfaces = interfaces; fields = fields; methods = methods }
+    record {
+      major = 52;
+      access = access;
+      name = name;
+      super_name = Some super;
+      interfaces = interfaces;
+      fields = fields;
+      methods = methods;
+    }
 
 abbrev pub just_return : List (ℕ × Instr)
 just_return = (0, Return) ∷ []

@@ -62,7 +62,9 @@ activity_value = record {
     code = Some record {
       max_stack = 1;
       max_locals = 1;
-      instrs = (0, ALoad 0) ∷ (1, InvokeSpecial record { owner = codes "android/app/Activity"; name = codes "<init>"; descriptor = codes "()V" }) ∷ (4, Return) ∷ [];
+      instrs =
+          (0, ALoad 0) ∷ (1, InvokeSpecial record { owner = codes "android/app/Activity"; name = codes "<init>"; descriptor = codes "()V" })
+          ∷ (4, Return) ∷ [];
       handlers = 0;
     };
   } ∷ [];

@@ -2,6 +2,9 @@
 ghost use Rattle.std.specs.Prelude.{◌≡◌};
 ghost use Rattle.th_syntax.specs.Flags.{has_flag};
 
+/// A member that its class alone uses.
+pub const ACC_PRIVATE: u16 = 0x0002;
+
 /// A member of the class itself, not of its objects.
 pub const ACC_STATIC: u16 = 0x0008;
 

@@ -31,7 +31,7 @@ pub mod tag;
 
 pub use class_file::{ClassFile, Code, Constant, Member};
 pub use event::Event;
-pub use flags::{ACC_ABSTRACT, ACC_INTERFACE, ACC_NATIVE, ACC_STATIC, has_flag};
+pub use flags::{ACC_ABSTRACT, ACC_INTERFACE, ACC_NATIVE, ACC_PRIVATE, ACC_STATIC, has_flag};
 pub use instr::{Instr, MemberRef, OUTSIDE, Primitive, StackOp};
 pub use kind::SlotKind;
 pub use layout::{FieldLayout, FileLayout, Group, MethodLayout, PoolEntry};
