@@ -7,6 +7,9 @@
 
 mod classes;
 mod inclusions;
+mod kinds;
+mod linking;
+mod paths;
 mod reading;
 mod refutations;
 mod sets;
@@ -17,7 +20,7 @@ use std::rt::Env;
 use std::{env, io};
 
 // The workloads that count.
-const WORKLOADS: [&str; 13] = [
+const WORKLOADS: [&str; 18] = [
     "merges",
     "fields",
     "subclasses",
@@ -31,6 +34,11 @@ const WORKLOADS: [&str; 13] = [
     "methods",
     "instructions",
     "entries",
+    "links",
+    "kinds",
+    "back_jumps",
+    "paths",
+    "cuts",
 ];
 
 // What a workload counted; none where no workload has the name.
@@ -49,6 +57,11 @@ fn counted(alloc: Global, name: &str, size: u32) -> Result<Option<u64>, AllocErr
         "methods" => Ok(Some(reading::methods(alloc, size)?)),
         "instructions" => Ok(Some(reading::instructions(alloc, size)?)),
         "entries" => Ok(Some(reading::entries(alloc, size)?)),
+        "links" => Ok(Some(linking::links(alloc, size)?)),
+        "kinds" => Ok(Some(kinds::kinds(alloc, size)?)),
+        "back_jumps" => Ok(Some(kinds::back_jumps(alloc, size)?)),
+        "paths" => Ok(Some(paths::paths(alloc, size)?)),
+        "cuts" => Ok(Some(paths::cuts(alloc, size)?)),
         _ => Ok(None),
     }
 }
