@@ -9,6 +9,10 @@ mod class_files;
 #[cfg(test)]
 mod codes;
 #[cfg(test)]
+mod compiled_kinds;
+#[cfg(test)]
+mod compiled_programs;
+#[cfg(test)]
 mod files;
 #[cfg(test)]
 mod linking;
