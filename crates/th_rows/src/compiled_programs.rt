@@ -3,7 +3,7 @@ use crate::class_files::{ACT, LIMITS, edited};
 use crate::files::{BUILT_IN, FRAGMENT};
 use std::alloc::Global;
 use std::test::Fail;
-use th_base::{OBJECT, Seq, Text};
+use th_base::{ClassId, OBJECT, Seq, Text};
 use th_linker::{can_link, link};
 use th_reader::read_class;
 use th_syntax::{ClassFile, Member, Program, Refusal};
@@ -170,13 +170,21 @@ fn chained(alloc: Global, number: u32, above: Option<u32>) -> Result<ClassFile, 
 // extends the class of this number, or java/lang/Object.
 fn chain(alloc: Global, count: u32, above: Option<u32>) -> Result<Vec<ClassFile>, Fail> {
     let mut classes = Vec::new(alloc);
-    let mut left = count;
-    while left > 0 {
-        left -= 1;
+    for place in 0..count {
+        let left = count - 1 - place;
         let above = if left > 0 { Some(left - 1) } else { above };
         classes.push(chained(alloc, left, above)?)?;
     }
     Ok(classes)
+}
+
+// Whether a class of the program is another or stands below it.
+fn is_below(program: &Program, low: ClassId, high: ClassId) -> bool {
+    let count = program.hierarchy().classes().len();
+    if low.0 as usize >= count || high.0 as usize >= count {
+        return false;
+    }
+    program.hierarchy().is_subclass(low, high)
 }
 
 #[test]
@@ -188,8 +196,8 @@ fn a_long_chain_is_linked(rt: HostRuntime) -> Result<(), Fail> {
             let highest = program.hierarchy().find_class(b"C0");
             match (lowest, highest) {
                 (Some(lowest), Some(highest)) => {
-                    assert!(rt; program.hierarchy().is_subclass(lowest, highest));
-                    assert!(rt; !program.hierarchy().is_subclass(highest, lowest));
+                    assert!(rt; is_below(&program, lowest, highest));
+                    assert!(rt; !is_below(&program, highest, lowest));
                 }
                 _ => return Err("a class isn't there".into()),
             }

@@ -7,6 +7,8 @@
 #[cfg(test)]
 mod class_files;
 #[cfg(test)]
+mod coarse;
+#[cfg(test)]
 mod codes;
 #[cfg(test)]
 mod compiled_kinds;
@@ -14,6 +16,10 @@ mod compiled_kinds;
 mod compiled_programs;
 #[cfg(test)]
 mod files;
+#[cfg(test)]
+mod inputs;
+#[cfg(test)]
+mod kinds_of_code;
 #[cfg(test)]
 mod linking;
 #[cfg(test)]
