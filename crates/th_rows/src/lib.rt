@@ -7,9 +7,19 @@
 #[cfg(test)]
 mod class_files;
 #[cfg(test)]
+mod coarse;
+#[cfg(test)]
 mod codes;
 #[cfg(test)]
+mod compiled_kinds;
+#[cfg(test)]
+mod compiled_programs;
+#[cfg(test)]
 mod files;
+#[cfg(test)]
+mod inputs;
+#[cfg(test)]
+mod kinds_of_code;
 #[cfg(test)]
 mod linking;
 #[cfg(test)]

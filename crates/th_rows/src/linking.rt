@@ -154,19 +154,19 @@ gives 18 B B.m()V 0";
 
 // The classes of a case so far, and the instructions of its next method.
 #[derive(Drop)]
-struct Draft {
-    classes: Vec<ClassFile>,
-    instrs: Seq<(u32, Instr)>,
+pub(crate) struct Draft {
+    pub(crate) classes: Vec<ClassFile>,
+    pub(crate) instrs: Seq<(u32, Instr)>,
 }
 
-fn new_draft(alloc: Global) -> Draft {
+pub(crate) fn new_draft(alloc: Global) -> Draft {
     Draft {
         classes: Vec::new(alloc),
         instrs: Seq::new(alloc),
     }
 }
 
-fn word<'a>(words: &[&'a str], at: usize) -> &'a str {
+pub(crate) fn word<'a>(words: &[&'a str], at: usize) -> &'a str {
     match words.get(at) {
         Some(word) => word,
         None => "-",
@@ -228,6 +228,7 @@ fn instr_of(alloc: Global, words: &[&str]) -> Result<Instr, Fail> {
     match word(words, 2) {
         "nop" => Ok(Instr::Nop),
         "throw" => Ok(Instr::Throw),
+        "return" => Ok(Instr::Return),
         "new" => Ok(Instr::New(name)),
         "checkcast" => Ok(Instr::CheckCast(name)),
         _ => {
@@ -244,6 +245,7 @@ fn instr_of(alloc: Global, words: &[&str]) -> Result<Instr, Fail> {
 fn member_instr(kind: &str, member: MemberRef) -> Result<Instr, Fail> {
     match kind {
         "getstatic" => Ok(Instr::GetStatic(member)),
+        "putstatic" => Ok(Instr::PutStatic(member)),
         "getfield" => Ok(Instr::GetField(member)),
         "invokevirtual" => Ok(Instr::InvokeVirtual(member)),
         "invokespecial" => Ok(Instr::InvokeSpecial(member)),
@@ -289,7 +291,7 @@ fn add_field(draft: &mut Draft, field: Member) -> Result<(), Fail> {
 }
 
 // Follows a line that makes a part of a class.
-fn follow(alloc: Global, draft: &mut Draft, words: &[&str]) -> Result<(), Fail> {
+pub(crate) fn follow(alloc: Global, draft: &mut Draft, words: &[&str]) -> Result<(), Fail> {
     match word(words, 0) {
         "class" => {
             draft.classes.push(class_of(alloc, words)?)?;
