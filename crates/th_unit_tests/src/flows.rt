@@ -7,11 +7,11 @@ use th_base::{
     ClassId, ClassInfo, Hierarchy, IdSet, MethodId, MethodInfo, NodeId, Reg, Seq, Text, acyclic,
 };
 use th_flow::{callers, entered_method, init_sites, loop_heads, merge_registers, predecessors};
-use th_ir::{Facts, Method, Node, RegProgram, Stmt};
+use th_ir::{CallKind, Facts, Method, Node, RegProgram, Stmt};
 
 // The successors of each node, a digit each: node 0 is the initialiser of class 0, the others are a
 // method that initialises class 1, a subclass, and has a loop. Node 3 is its head, to which the Copies
-// at 2 and 5 lead; two branches of node 3 lead to node 6.
+// at 2 and 5 lead; two branches of node 3 lead to node 6, and node 4 calls the method itself.
 const SUCCESSORS: &[u8] = b"|2|3|466|5|3|";
 
 fn copy(alloc: Global, to: u32, from: u32) -> Result<Stmt, Fail> {
@@ -25,6 +25,7 @@ fn stmt(alloc: Global, place: usize) -> Result<Stmt, Fail> {
         0 | 6 => Ok(Stmt::Return(None)),
         1 => Ok(Stmt::Init(ClassId(1))),
         2 => copy(alloc, 7, 1),
+        4 => Ok(Stmt::Call(None, CallKind::Static, MethodId(1), Seq::new(alloc))),
         5 => copy(alloc, 4, 7),
         _ => Ok(Stmt::Nop),
     }
@@ -130,7 +131,7 @@ fn hierarchy(alloc: Global) -> Result<Hierarchy, Fail> {
     Err("no hierarchy".into())
 }
 
-// Node 4 calls the method that it belongs to.
+// What node 4 calls.
 fn facts(alloc: Global) -> Result<Facts, Fail> {
     let mut calls = Seq::new(alloc);
     calls.push((NodeId(4), MethodId(1)))?;

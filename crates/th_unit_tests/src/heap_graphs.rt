@@ -65,9 +65,10 @@ fn hierarchy(alloc: Global) -> Result<Hierarchy, Fail> {
 // Sites 0 and 1 make objects of the last class and of the first, sites 2 and 3 arrays of the two.
 const SITES: &[u8] = b"l|a|[Ll;|[La;";
 
-fn sites(alloc: Global) -> Result<Seq<Site>, Fail> {
+// The sites whose classes a text has, with bars between them.
+pub(crate) fn sites(alloc: Global, classes: &[u8]) -> Result<Seq<Site>, Fail> {
     let mut sites = Seq::new(alloc);
-    for text in SITES.split(|b| *b == b'|') {
+    for text in classes.split(|b| *b == b'|') {
         sites.push(Site {
             class: Text::from_slice(alloc, text)?,
             place: Place::Event,
@@ -106,7 +107,7 @@ fn program(alloc: Global) -> Result<RegProgram, Fail>
     ensures { IfOk result (λ p. (length p.nodes ≡ 6) × (length p.sites ≡ 4) × (length p.strings ≡ 1)) }
 {
     let nodes = nodes(alloc)?;
-    let sites = sites(alloc)?;
+    let sites = sites(alloc, SITES)?;
     let mut strings = Seq::new(alloc);
     strings.push((FieldId(0), SiteId(3)))?;
     if nodes.len() != 6 || sites.len() != 4 || strings.len() != 1 {
@@ -123,7 +124,8 @@ fn program(alloc: Global) -> Result<RegProgram, Fail>
     })
 }
 
-fn set(alloc: Global, digits: &[u8]) -> Result<IdSet, Fail> {
+// The set of these digits.
+pub(crate) fn set(alloc: Global, digits: &[u8]) -> Result<IdSet, Fail> {
     let mut set = IdSet::new(alloc);
     for digit in digits {
         set.insert(u32::from(*digit).wrapping_sub(48))?;
@@ -131,7 +133,8 @@ fn set(alloc: Global, digits: &[u8]) -> Result<IdSet, Fail> {
     Ok(set)
 }
 
-fn sets(alloc: Global, text: &[u8]) -> Result<Seq<IdSet>, Fail> {
+// The sets of a text, with bars between them.
+pub(crate) fn sets(alloc: Global, text: &[u8]) -> Result<Seq<IdSet>, Fail> {
     let mut sets = Seq::new(alloc);
     for digits in text.split(|b| *b == b'|') {
         sets.push(set(alloc, digits)?)?;
@@ -172,7 +175,8 @@ fn add(text: &mut String, kind: char, numbers: &[u32]) -> Result<(), Fail> {
     Ok(())
 }
 
-fn edges_as_text(alloc: Global, graph: &Graph) -> Result<String, Fail> {
+// The edges, a letter and the numbers of each.
+pub(crate) fn edges_as_text(alloc: Global, graph: &Graph) -> Result<String, Fail> {
     let mut text = String::new(alloc);
     for edge in graph.edges.as_slice() {
         match *edge {

@@ -30,6 +30,8 @@ mod linear_facts;
 #[cfg(test)]
 mod plans;
 #[cfg(test)]
+mod program_graphs;
+#[cfg(test)]
 mod queries;
 #[cfg(test)]
 mod refutations;
