@@ -24,7 +24,7 @@ use Rattle.th_coarse.specs.declared.alarms.TheConstants.{MOST_ALARMS}
 -- ---- which pairs are alarms
 
 -- A static field of reference type to which a reachable `putstatic` resolves, and an Activity class that the
--- harness launches or that a reachable `new` names. The law `alarms_are_those` says that these pairs are listed.
+-- harness launches or that a reachable `new` names. The law `coarse_alarms_are_listed` says that these pairs are listed.
 pub record IsCoarseAlarm (files : List ClassFile) (field class : ℕ) : Type 0 where
   pub is_field : IsStaticReference files field
   pub stored : IsStoredInto files field
