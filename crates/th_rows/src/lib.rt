@@ -17,6 +17,8 @@ mod compiled_programs;
 #[cfg(test)]
 mod files;
 #[cfg(test)]
+mod host_streams;
+#[cfg(test)]
 mod inputs;
 #[cfg(test)]
 mod kinds_of_code;

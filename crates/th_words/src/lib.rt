@@ -8,11 +8,12 @@
 //!
 //! A check of our own settles the shape of the words. `clap` then reads them as one simple
 //! command, and is proved, for any list of options, to take just the values and operands that
-//! stand in the words.
+//! stand in the words. `host_words` is where the words of a program come from.
 #![tactic(auto)]
 
 mod command;
 mod given;
+mod host;
 pub mod laws;
 mod options;
 mod read;
@@ -20,4 +21,5 @@ mod values;
 mod word_shape;
 
 pub use command::{Command, UsageFault};
+pub use host::host_words;
 pub use read::read_words;
