@@ -19,6 +19,10 @@ mod compiled_programs;
 #[cfg(test)]
 mod files;
 #[cfg(test)]
+mod given_words;
+#[cfg(test)]
+mod host_streams;
+#[cfg(test)]
 mod inputs;
 #[cfg(test)]
 mod kinds_of_code;

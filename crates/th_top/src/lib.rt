@@ -2,7 +2,8 @@
 //!
 //! `thresher` reads the words, reads the files that they name, and writes the report of their
 //! program. Its clauses say exactly which status comes when and what is written, and that every
-//! static field and Activity class that some run joins survives in the report.
+//! static field and Activity class that some run joins survives in the report. `host_words` is where
+//! the words of a program come from.
 //!
 //! `specs/` has which words are a command (`Asked`), what comes of one (`Outcome`), the lines on
 //! the errors (`Lines`), what is written (`Writing`), and what the clauses say (`Answer`); `laws`
@@ -11,6 +12,7 @@
 
 mod asked;
 mod decide;
+mod host;
 pub mod laws;
 mod lines;
 mod status;
@@ -18,5 +20,6 @@ mod top;
 mod writing;
 
 pub use decide::Decided;
+pub use host::host_words;
 pub use status::Status;
 pub use top::thresher;
