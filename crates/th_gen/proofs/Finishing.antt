@@ -1,6 +1,6 @@
 -- The bytes of a class, part by part.
-use Rattle.std.proofs.Common.{◌≡◌, ℕ, zero, suc, ◌+◌, ◌<◌, ◌≤◌, ◌^◌, Bool, true, false, ◌&&◌, List, [], ◌∷◌, ◌++◌, length, take, get_or, refl, sym, ap, ◌∙◌, arith, append_assoc}
-use Rattle.std.specs.Prelude.{codes, nat_lt, nat_le}
+use Rattle.std.proofs.Common.{◌≡◌, ℕ, zero, suc, ◌+◌, ◌<◌, ◌≤◌, Bool, true, false, ◌&&◌, List, [], ◌∷◌, ◌++◌, length, take, get_or, refl, sym, ap, ◌∙◌, arith, append_assoc}
+use Rattle.std.specs.Prelude.{codes, nat_le}
 use Rattle.th_syntax.specs.declared.instr.Instr.{Instr}
 use Rattle.th_gen.specs.declared.item.PoolItem.{PoolItem}
 use Rattle.th_gen.specs.declared.item.PoolItem.TheVariants.{Utf8}
@@ -8,7 +8,7 @@ use Rattle.th_gen.specs.declared.draft.DraftMethod.{DraftMethod}
 use Rattle.th_gen.specs.Items.{index_of}
 use Rattle.th_gen.specs.Placing.{code_length}
 use Rattle.th_gen.specs.ClassText as text
-use Rattle.std.specs.List.{list_all, flat_map}
+use Rattle.std.specs.List.{list_all}
 use Rattle.std.proofs.lemmas.List.{take_more}
 use Rattle.th_base.specs.declared.fail.Fail.{Fail}
 use Rattle.th_base.specs.declared.fail.Fail.TheVariants.{Refused, NoMemory}

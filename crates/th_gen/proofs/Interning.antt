@@ -1,7 +1,7 @@
 -- The table of entries is the pool: its test is the one of entries, and the place of an entry leads to its index.
 use Rattle.std.proofs.Common.{◌≡◌, ℕ, suc, ◌+◌, ◌<◌, Bool, true, false, cond, zero, List, [], ◌∷◌, ◌++◌, length, get_or, ◌≤◌, Option, Some, None, refl, sym, ap, ◌∙◌, arith}
-use Rattle.std.specs.Prelude.{codes, fold, position, not, nat_lt, slice_index}
-use Rattle.std.specs.List.{list_any, position_or_len, prefix_len}
+use Rattle.std.specs.Prelude.{codes, position, not, nat_lt, slice_index}
+use Rattle.std.specs.List.{list_any, position_or_len}
 use Rattle.std.proofs.lemmas.Bool.{ltb-false}
 use Rattle.th_gen.specs.declared.item.PoolItem.{PoolItem}
 use Rattle.th_gen.specs.declared.item.PoolItem.TheVariants.{Utf8, Integer, LongInteger, ClassName, StringText, NameAndType, FieldRef, MethodRef, InterfaceMethodRef}
@@ -11,7 +11,7 @@ use Rattle.th_gen.specs.declared.draft.ClassWriter.{ClassWriter}
 use Rattle.th_gen.specs.declared.draft.DraftMethod.{DraftMethod}
 use Rattle.th_gen.specs.contracts.item.PoolItemPartialEq.TheImpl as derived
 use Rattle.th_syntax.specs.declared.instr.MemberRef.{MemberRef}
-use Rattle.th_gen.specs.Items.{is_same_item, with_item, with_items, class_items, header_items, member_items, instr_items, field_items, code_items, method_items, pool_of, width, indices_from, index_behind, index_from, index_of}
+use Rattle.th_gen.specs.Items.{is_same_item, with_item, with_items, class_items, header_items, member_items, instr_items, field_items, code_items, method_items, pool_of, width, indices_from, index_from, index_of}
 
 pub any_same : {X : Type 0} (p q : X → Bool) (xs : List X) → ((x : X) → p x ≡ q x) → list_any p xs ≡ list_any q xs
 any_same p q [] same = refl

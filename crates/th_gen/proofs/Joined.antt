@@ -1,5 +1,5 @@
 -- Bytes that were appended one after the other.
-use Rattle.std.proofs.Common.{◌≡◌, ℕ, List, ◌++◌, refl, sym, ap, ◌∙◌, append_assoc}
+use Rattle.std.proofs.Common.{◌≡◌, ℕ, List, ◌++◌, ap, ◌∙◌, append_assoc}
 
 pub two_joined : (o o1 o2 p q : List ℕ) → o1 ≡ o ++ p → o2 ≡ o1 ++ q → o2 ≡ o ++ (p ++ q)
 two_joined o o1 o2 p q a b = b ∙ ap (λ (r : List ℕ). r ++ q) a ∙ append_assoc o p q

@@ -6,6 +6,7 @@ pub mod Entries
 pub mod Fitting
 pub mod FlowSpelled
 pub mod GeneratedPasses
+pub mod Generating
 pub mod InstrSpelled
 pub mod Instructions
 pub mod Members

@@ -115,32 +115,50 @@ vec_class = record {
 
 -- ---- the Activity classes
 
+abbrev pub kept_name : List ℕ
+kept_name = codes "s"
+
+abbrev pub number_name : List ℕ
+number_name = codes "n"
+
+abbrev pub number_type : List ℕ
+number_type = codes "I"
+
 abbrev pub kept_field : List ℕ → MemberRef
-kept_field owner = member owner (codes "s") object_type
+kept_field owner = member owner kept_name object_type
 
 abbrev pub number_field : List ℕ → MemberRef
-number_field owner = member owner (codes "n") (codes "I")
+number_field owner = member owner number_name number_type
 
 abbrev pub activity_class : List ℕ → List DraftField → List DraftMethod → ClassWriter
 activity_class name more_fields more_methods =
-    record { name = name; super_name = activity_name; fields = static_field (codes "s") object_type ∷ more_fields; methods = plain_constructor activity_name ∷ more_methods }
+    record { name = name; super_name = activity_name; fields = static_field kept_name object_type ∷ more_fields; methods = plain_constructor activity_name ∷ more_methods }
 
 -- it keeps the object
+abbrev pub keeping_handler : List ℕ → DraftMethod
+keeping_handler owner = on_create 1 (ALoad 0 ∷ PutStatic (kept_field owner) ∷ Return ∷ [])
+
 abbrev pub keeping_class : List ℕ → ClassWriter
-keeping_class name = activity_class name [] (on_create 1 (ALoad 0 ∷ PutStatic (kept_field name) ∷ Return ∷ []) ∷ [])
+keeping_class name = activity_class name [] (keeping_handler name ∷ [])
 
 -- it keeps the object where a number is below 0 and above 0
+abbrev pub guarded_handler : List ℕ → DraftMethod
+guarded_handler owner = on_create 1 (
+    GetStatic (number_field owner) ∷ IfZero Ge 6 ∷ GetStatic (number_field owner) ∷ IfZero Le 6
+    ∷ ALoad 0 ∷ PutStatic (kept_field owner) ∷ Return ∷ [])
+
 abbrev pub guarded_class : List ℕ → ClassWriter
-guarded_class name = activity_class name (static_field (codes "n") (codes "I") ∷ []) (on_create 1 (
-    GetStatic (number_field name) ∷ IfZero Ge 6 ∷ GetStatic (number_field name) ∷ IfZero Le 6
-    ∷ ALoad 0 ∷ PutStatic (kept_field name) ∷ Return ∷ []) ∷ [])
+guarded_class name = activity_class name (static_field number_name number_type ∷ []) (guarded_handler name ∷ [])
 
 -- it keeps a vector, and pushes the object to another one
+abbrev pub vec_keeper : List ℕ → DraftMethod
+vec_keeper owner = class_initialiser 2 (make vec_name (PutStatic (kept_field owner) ∷ Return ∷ []))
+
+abbrev pub pushing_handler : DraftMethod
+pushing_handler = on_create 2 (make vec_name (ALoad 0 ∷ InvokeVirtual (member vec_name push_name push_type) ∷ Return ∷ []))
+
 abbrev pub pushing_class : List ℕ → ClassWriter
-pushing_class name = activity_class name [] (
-    class_initialiser 2 (make vec_name (PutStatic (kept_field name) ∷ Return ∷ []))
-    ∷ on_create 2 (make vec_name (ALoad 0 ∷ InvokeVirtual (member vec_name push_name push_type) ∷ Return ∷ []))
-    ∷ [])
+pushing_class name = activity_class name [] (vec_keeper name ∷ pushing_handler ∷ [])
 
 abbrev pub class_of_kind : ℕ → List ℕ → ClassWriter
 class_of_kind zero name = keeping_class name

@@ -4,6 +4,7 @@ pub mod Generated
 pub mod Items
 pub mod Passing
 pub mod Placing
+pub mod Program
 pub mod Refusals
 pub mod Spellings
 pub mod Worked

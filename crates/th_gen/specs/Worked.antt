@@ -1,6 +1,6 @@
 -- Spellings at the edges of their operands, the entries of a class, and a class that passes the checks,
 -- worked out in full.
-use Rattle.std.specs.Prelude.{ℕ, List, [], ◌∷◌, codes, pos, negsuc}
+use Rattle.std.specs.Prelude.{List, [], ◌∷◌, codes, pos, negsuc}
 use Rattle.th_syntax.specs.declared.instr.Primitive.TheVariants as primitive
 use Rattle.th_syntax.specs.declared.instr.Instr.{Instr}
 use Rattle.th_syntax.specs.declared.instr.Instr.TheVariants.{Int, Long, Str, ILoad, ALoad, LLoad, LStore, Inc, Goto, TableSwitch, LookupSwitch, GetStatic, PutField, InvokeVirtual, InvokeSpecial, InvokeInterface, InvokeStatic, New, NewArray, ANewArray, CheckCast, InstanceOf}

@@ -1,4 +1,4 @@
-use Rattle.std.proofs.Common.{◌≡◌, ℕ, ◌<◌, ◌≤◌, true, false, List, ◌++◌, length, sym, ap, subst, ◌∙◌}
+use Rattle.std.proofs.Common.{◌≡◌, ℕ, ◌<◌, ◌≤◌, true, false, List, length, sym, ap, subst, ◌∙◌}
 use Rattle.th_syntax.specs.declared.instr.Instr.{Instr}
 use Rattle.th_gen.specs.declared.item.PoolItem.TheVariants.{Utf8}
 use Rattle.th_gen.specs.Items.{index_of}

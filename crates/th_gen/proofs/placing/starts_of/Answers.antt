@@ -1,4 +1,4 @@
-use Rattle.std.proofs.Common.{◌≡◌, ◌+◌, ◌<◌, ◌≤◌, arith}
+use Rattle.std.proofs.Common.{◌+◌, ◌<◌, ◌≤◌, arith}
 use Rattle.th_gen.specs.Placing.{starts_from, code_end, starts_of, code_length}
 use Rattle.th_gen.proofs.Loops.{too_long, next_start, all_started, sized}
 use Rattle.th_gen.proofs.placing.starts_of.Goals as goal

@@ -1,4 +1,4 @@
-use Rattle.std.proofs.Common.{◌≡◌, ◌++◌, take}
+use Rattle.std.proofs.Common.{◌≡◌, take}
 use Rattle.std.specs.List.{flat_map}
 use Rattle.th_gen.specs.Items.{with_items, instr_items}
 use Rattle.th_gen.proofs.pool.add_instrs.Given as goal

@@ -1,4 +1,4 @@
-use Rattle.std.proofs.Common.{◌≡◌, ℕ, List, ap, ◌∙◌}
+use Rattle.std.proofs.Common.{ℕ, List, ap, ◌∙◌}
 use Rattle.th_gen.specs.declared.item.PoolItem.TheVariants.{NameAndType}
 use Rattle.th_gen.specs.Items.{with_item}
 use Rattle.th_gen.proofs.Interning.{member_added}

@@ -1,4 +1,4 @@
-use Rattle.std.proofs.Common.{◌≡◌, ℕ, true, false, List, [], ap, ◌∙◌}
+use Rattle.std.proofs.Common.{◌≡◌, ℕ, true, false, List, ap, ◌∙◌}
 use Rattle.th_gen.specs.declared.item.PoolItem.TheVariants.{Utf8}
 use Rattle.th_gen.specs.Items.{with_item, instr_items, with_items}
 use Rattle.std.specs.List.{flat_map}

@@ -1,4 +1,4 @@
-use Rattle.std.proofs.Common.{◌≡◌, List, ap, ◌∙◌}
+use Rattle.std.proofs.Common.{List, ap, ◌∙◌}
 use Rattle.std.specs.List.{flat_map}
 use Rattle.th_gen.specs.declared.item.PoolItem.{PoolItem}
 use Rattle.th_gen.specs.declared.draft.DraftField.{DraftField}

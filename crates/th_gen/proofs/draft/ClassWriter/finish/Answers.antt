@@ -1,4 +1,4 @@
-use Rattle.std.proofs.Common.{◌≡◌, true, List, ℕ, sym, ap, subst, ◌∙◌}
+use Rattle.std.proofs.Common.{List, ℕ, sym, ap, subst, ◌∙◌}
 use Rattle.th_syntax.specs.ClassGrammar.{IsClassFile, are_bytes}
 use Rattle.th_gen.specs.ClassValue.{class_of}
 use Rattle.th_gen.specs.Passing.{Passes}
