@@ -5,9 +5,11 @@ pub mod Begun
 pub mod Dropping
 pub mod Entries
 pub mod Following
+pub mod Happened
 pub mod Holding
 pub mod Lineages
 pub mod Opened
+pub mod Ran
 pub mod Short
 pub mod Statics
 pub mod Stood

@@ -1,4 +1,5 @@
 pub mod Beginning
+pub mod Happening
 pub mod Holding
 pub mod Making
 pub mod Opening

@@ -147,7 +147,7 @@ fn has_constructor(resolved: &Resolved<'_>, class: ClassId) -> bool
 }
 
 // How much a state holds with a new object of a class.
-fn with_new_object(
+pub(crate) fn with_new_object(
     alloc: Global,
     resolved: &Resolved<'_>,
     class: ClassId,

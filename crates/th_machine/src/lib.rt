@@ -1,16 +1,18 @@
 //! The machine that runs a program.
 //!
-//! `Machine::start` stands in the initial state, and `Machine::step` takes one step. Its contract says that
-//! in a verified program this is the step of the machine's definitions, and that `Full` comes exactly where
-//! the state after it has no room (`specs/Running.antt`). Inside, a state is taken apart into the frame on top
-//! and the rest (`Standing`); a step goes by the acts of `th_acts` and the table of `th_resolved`
-//! (`Stepping`), and `laws` say that this is the step of the definitions.
+//! `Machine::start` stands in the initial state, `Machine::event` makes an event and the steps after it, and
+//! `Machine::step` one step. In a verified program these are the event and the steps of the machine's
+//! definitions, and `Full` comes exactly where the next state has no room (`specs/Running.antt`). Inside, a state
+//! is taken apart into the frame on top and the rest (`Standing`); a step goes by the acts of `th_acts` and the
+//! table of `th_resolved` (`Stepping`), an event by `Happening`, and `laws` say that the step by the table is that
+//! of the definitions.
 #![tactic(auto, unfolding(th_syntax::specs::Effects::needs))]
 
 mod acting;
 mod beginning;
 mod calling;
 mod going;
+mod happening;
 mod held;
 /// Laws of steps.
 pub mod laws;
@@ -26,5 +28,5 @@ mod starting;
 mod stepping;
 mod writing;
 
-pub use machine::Machine;
-pub use outcome::Stepped;
+pub use machine::{Answered, Machine};
+pub use outcome::{Outcome, Stepped};

@@ -3,17 +3,18 @@ ghost use Rattle.std.specs.Prelude.{◌≡◌, [], false, IfOk};
 ghost use Rattle.th_runs.specs.Verified.{IsVerified};
 ghost use Rattle.th_syntax.specs.Initial.{initial};
 ghost use Rattle.th_syntax.specs.declared.machine.State.{State};
-ghost use Rattle.th_machine.specs.Running.{IsStep, told_after, told_of};
+ghost use Rattle.th_machine.specs.Running.{Answers, HasRun, IsStep, finds_no_room, last_of, rest_of, told_after, told_of};
 
 use crate::beginning::{heap_held, initial};
+use crate::happening::{Came, happen};
 use crate::laws::steps_are_found;
-use crate::outcome::Stepped;
+use crate::outcome::{Outcome, Stepped};
 use crate::stepping::{Advance, step_state};
 use std::alloc::{AllocError, Global};
 use std::marker::Model;
 use th_base::Lifecycle;
 use th_resolved::Resolved;
-use th_syntax::{Program, State};
+use th_syntax::{Event, Program, State};
 
 /// A program, the lifecycle that its harness follows, and the state in which its run stands. A call that
 /// moves it takes it by value, so that after want of memory there is no machine.
@@ -34,6 +35,59 @@ impl<'a> Model for Machine<'a> {
     ghost view = { λ m. record { files = m.resolved; lifecycle = m.lifecycle; state = m.state } };
 
     ghost invariant = { λ m. IsStanding m.resolved m.lifecycle m.state m.held };
+}
+
+/// What comes of an event.
+#[derive(Drop)]
+pub struct Answered<'a> {
+    /// The machine then.
+    pub machine: Machine<'a>,
+    /// The fuel that is left.
+    pub fuel: u64,
+    /// What it came to; none where the event can't happen, and nothing was changed.
+    pub outcome: Option<Outcome>,
+}
+
+// What comes of a run.
+#[derive(Drop)]
+struct Ran<'a> {
+    machine: Machine<'a>,
+    left: u64,
+    outcome: Outcome,
+}
+
+// What comes of a run that rests or has ended.
+fn rest_of(state: &State) -> Option<Outcome>
+    ensures { result ≡ rest_of state.now }
+{
+    if state.ended {
+        return Some(Outcome::Ended);
+    }
+    if state.frames.is_empty() {
+        Some(Outcome::Idle)
+    } else {
+        None
+    }
+}
+
+// What comes of a run that has no fuel left.
+fn last_of(state: &State) -> Outcome
+    ensures { result ≡ last_of state.now }
+{
+    match rest_of(state) {
+        Some(outcome) => outcome,
+        None => Outcome::Fuel,
+    }
+}
+
+// Whether a step found no room.
+fn finds_no_room(told: Stepped) -> bool
+    ensures { result ≡ finds_no_room told }
+{
+    match told {
+        Stepped::Full => true,
+        Stepped::Running | Stepped::Idle | Stepped::Ended => false,
+    }
 }
 
 // What is told of a state after a step.
@@ -113,5 +167,81 @@ impl<'a> Machine<'a> {
             held: advance.held,
         };
         Ok((machine, told))
+    }
+
+    /// An event, and then the steps that follow, as long as there is fuel: each takes one unit, and the event none.
+    pub fn event(self, asked: Event, fuel: u64) -> Result<Answered<'a>, AllocError>
+        requires runs { self.state.ended ≡ false }
+        requires idle { self.state.frames ≡ [] }
+        ensures { IfOk result (λ r. IsVerified self.entry.files → Answers self.entry asked fuel r.machine r.fuel r.outcome) }
+    {
+        let Machine {
+            alloc,
+            resolved,
+            lifecycle,
+            state,
+            held,
+        } = self;
+        let happening = happen(alloc, &resolved, lifecycle, state, asked, held)?;
+        let came = happening.came;
+        let machine = Machine {
+            alloc,
+            resolved,
+            lifecycle,
+            state: happening.state,
+            held: happening.held,
+        };
+        match came {
+            Came::Nothing => Ok(Answered {
+                machine,
+                fuel,
+                outcome: None,
+            }),
+            Came::Full => Ok(Answered {
+                machine,
+                fuel,
+                outcome: Some(Outcome::Full),
+            }),
+            Came::Made => {
+                let ran = machine.run(fuel)?;
+                Ok(Answered {
+                    machine: ran.machine,
+                    fuel: ran.left,
+                    outcome: Some(ran.outcome),
+                })
+            }
+        }
+    }
+
+    // The run goes on until it rests, has ended, has no fuel or finds no room.
+    fn run(self, fuel: u64) -> Result<Ran<'a>, AllocError>
+        ensures { IfOk result (λ r. IsVerified self.entry.files → HasRun self.entry fuel r.machine r.left r.outcome) }
+    {
+        let mut machine = self;
+        for taken in 0..fuel {
+            let rest = rest_of(&machine.state);
+            if let Some(outcome) = rest {
+                return Ok(Ran {
+                    machine,
+                    left: fuel - taken,
+                    outcome,
+                });
+            }
+            let (next, told) = machine.step()?;
+            if finds_no_room(told) {
+                return Ok(Ran {
+                    machine: next,
+                    left: fuel - taken,
+                    outcome: Outcome::Full,
+                });
+            }
+            machine = next;
+        }
+        let outcome = last_of(&machine.state);
+        Ok(Ran {
+            machine,
+            left: 0,
+            outcome,
+        })
     }
 }
