@@ -5,6 +5,8 @@
 #![tactic(auto)]
 
 #[cfg(test)]
+mod accepted;
+#[cfg(test)]
 mod class_files;
 #[cfg(test)]
 mod coarse;
@@ -16,6 +18,10 @@ mod compiled_kinds;
 mod compiled_programs;
 #[cfg(test)]
 mod files;
+#[cfg(test)]
+mod given_words;
+#[cfg(test)]
+mod host_streams;
 #[cfg(test)]
 mod inputs;
 #[cfg(test)]

@@ -1,119 +1,255 @@
--- What follows from what is decided, and from what the store tells.
-use Rattle.std.proofs.Common.{◌≡◌, ℕ, ◌<◌, List, [], length, Option, None, Some, Result, Ok, Err, refl, sym, ap, subst, ◌∙◌, arith, inl, inr}
-use Rattle.th_syntax.specs.declared.class_file.ClassFile.{ClassFile}
-use Rattle.th_outside.specs.Store.{NamedFile, Lacks}
-use Rattle.th_top.specs.FirstForm.{IsAccepted}
-use Rattle.th_top.specs.Report.{report_of}
-use Rattle.th_top.specs.Answer.{MayHold, IsTold, Accepts, status_for, DecidesReport, DecidesFile, Decides, line_of}
-use Rattle.th_top.specs.declared.words.UsageFault.{UsageFault}
+-- What follows from what is decided, for each status, for the output and for the errors.
+use Rattle.std.proofs.Common.{◌≡◌, ◌≢◌, ℕ, ◌<◌, Bool, true, false, cond, List, [], length, Option, None, Some, Result, Ok, Err, refl, sym, ap, subst, ◌∙◌, arith, ◌⊎◌, inl, inr}
+use Rattle.std.specs.Prelude.{IfOk, IsErr}
+use Rattle.std.proofs.lemmas.List.{append-nil}
+use Rattle.th_outside.specs.Store.{NamedFile}
+use Rattle.th_outside.specs.Held.{Held}
+use Rattle.th_coarse.specs.Report.{some_survive}
+use Rattle.th_coarse.specs.declared.judged.Judged.{Judged}
+use Rattle.th_words.specs.declared.command.Command.{Command}
+use Rattle.th_words.specs.declared.command.UsageFault.{UsageFault}
+use Rattle.th_top.specs.Answer.{Refuses, no_file, failed_call, FailsToRead, Reports, Stops, IsLine}
+use Rattle.th_top.specs.Asked.{list_in, operands_in}
+use Rattle.th_top.specs.Decided.{Shows, faults_after, IsNamedLast, DecidesNamed, Decides}
+use Rattle.th_top.specs.Outcome.{Outcome, reports, refuses, lacks, fails, Comes, IsOutcome, IsFault, status_of, output_of, line_of}
+use Rattle.th_top.specs.Writing.{with_text, AddsPart}
 use Rattle.th_top.specs.declared.decide.Decided.{Decided}
 use Rattle.th_top.specs.declared.status.Status.{Status}
 use Rattle.th_top.specs.declared.status.Status.TheVariants.{NoneSurvive, SomeSurvive, Usage, Refused, ReadFault, WriteFault, NoMemory}
-use Rattle.th_top.proofs.Accepting.{one_class}
 
--- a store that tells has one content under a name
-one_content : (told : Option (List NamedFile)) (name bytes other : List ℕ) → MayHold told name bytes → IsTold told name other → bytes ≡ other
-one_content None name bytes other may is = absurd is
-one_content (Some files) name bytes other may is = let h : bytes ≡ other = cc (may, is) in h
+-- ---- the statuses of outcomes
 
--- what is told isn't missing
-told_there : (told : Option (List NamedFile)) (name bytes : List ℕ) → IsTold told name bytes → Lacks told name → ⊥
-told_there None name bytes is lacks = is
-told_there (Some files) name bytes is lacks = cc (is, lacks)
+-- a status of a report
+abbrev pub IsReported : Status → Type 0
+IsReported NoneSurvive = Unit {0}
+IsReported SomeSurvive = Unit {0}
+IsReported Usage = ⊥
+IsReported Refused = ⊥
+IsReported ReadFault = ⊥
+IsReported WriteFault = ⊥
+IsReported NoMemory = ⊥
 
--- the class of an accepted file is the one that its told bytes are accepted as
-same_class : (told : Option (List NamedFile)) (name bytes : List ℕ) (class other : ClassFile) → Accepts told name other → IsTold told name bytes → IsAccepted bytes class → other ≡ class
-same_class told name bytes class other accepts is accepted =
-    let same = one_content told name accepts.bytes bytes accepts.held is in
-    one_class bytes other class (subst (λ bs. IsAccepted bs other) same accepts.accepted).stands accepted.stands
+report_status : (some : Bool) → IsReported (cond some SomeSurvive NoneSurvive)
+report_status true = tt
+report_status false = tt
 
--- ---- a told file that is accepted
+-- a status of words that ask for something
+abbrev IsOfCommand : Status → Type 0
+IsOfCommand NoneSurvive = Unit {0}
+IsOfCommand SomeSurvive = Unit {0}
+IsOfCommand Usage = ⊥
+IsOfCommand Refused = Unit {0}
+IsOfCommand ReadFault = Unit {0}
+IsOfCommand WriteFault = ⊥
+IsOfCommand NoMemory = ⊥
 
-pub record IsReport (status : Status) (text : List ℕ) (class : ClassFile) : Type 0 where
-  pub status_is : status ≡ status_for class
-  pub text_is : text ≡ report_of class
+of_report : (status : Status) → IsReported status → IsOfCommand status
+of_report NoneSurvive is = tt
+of_report SomeSurvive is = tt
+of_report Usage is = is
+of_report Refused is = tt
+of_report ReadFault is = tt
+of_report WriteFault is = is
+of_report NoMemory is = is
 
-report_is : (status : Status) (told : Option (List NamedFile)) (name bytes text line : List ℕ) (class : ClassFile) (before after : ℕ) → DecidesReport status told name before after text line → IsTold told name bytes → IsAccepted bytes class → IsReport status text class
-report_is status told name bytes text line class before after decides is accepted =
-    let same = same_class told name bytes class decides.class decides.accepts is accepted in
-    record { status_is = decides.status_is ∙ ap status_for same; text_is = decides.text_is ∙ ap report_of same }
+of_outcome : (o : Outcome) → IsOfCommand (status_of o)
+of_outcome (reports classes report) = of_report (cond (some_survive report) SomeSurvive NoneSurvive) (report_status (some_survive report))
+of_outcome (refuses refusal) = tt
+of_outcome (lacks name) = tt
+of_outcome (fails name) = tt
 
-pub report_file : (status : Status) (told : Option (List NamedFile)) (name bytes text line : List ℕ) (class : ClassFile) (before after : ℕ) → DecidesFile status told name before after text line → IsTold told name bytes → IsAccepted bytes class → after ≡ before → IsReport status text class
-report_file NoneSurvive told name bytes text line class before after decides is accepted same = report_is NoneSurvive told name bytes text line class before after decides is accepted
-report_file SomeSurvive told name bytes text line class before after decides is accepted same = report_is SomeSurvive told name bytes text line class before after decides is accepted
-report_file Refused told name bytes text line class before after decides is accepted same =
-    let bytes_is = one_content told name decides.rejects.bytes bytes decides.rejects.held is in
-    absurd (decides.rejects.rejected class (subst (λ bs. IsAccepted bs class) (sym bytes_is) accepted))
-report_file ReadFault told name bytes text line class before after decides is accepted same =
-    absurd (elim decides.read_failed [ inl lacks ↦ told_there told name bytes is lacks.0 | inr rose ↦ (let h : ⊥ = omega arith in h) ])
-report_file Usage told name bytes text line class before after decides is accepted same = absurd decides
-report_file WriteFault told name bytes text line class before after decides is accepted same = absurd decides
-report_file NoMemory told name bytes text line class before after decides is accepted same = absurd decides
+-- a report has no other status
+not_reported : {A : Type 0} (report : List Judged) (status : Status) → (IsReported status → ⊥) → cond (some_survive report) SomeSurvive NoneSurvive ≡ status → A
+not_reported report status other is = absurd (other (subst IsReported is (report_status (some_survive report))))
 
--- a text that isn't empty is the report
-nothing_written : (text : List ℕ) (n : ℕ) → n < length text → text ≡ [] → ⊥
-nothing_written text n more nothing = let none : length text ≡ 0 = ap length nothing in omega arith
+-- ---- the words are no command
 
-pub text_file : (status : Status) (told : Option (List NamedFile)) (name bytes text line : List ℕ) (class : ClassFile) (before after n : ℕ) → DecidesFile status told name before after text line → IsTold told name bytes → IsAccepted bytes class → n < length text → text ≡ report_of class
-text_file NoneSurvive told name bytes text line class before after n decides is accepted more = (report_is NoneSurvive told name bytes text line class before after decides is accepted).text_is
-text_file SomeSurvive told name bytes text line class before after n decides is accepted more = (report_is SomeSurvive told name bytes text line class before after decides is accepted).text_is
-text_file Refused told name bytes text line class before after n decides is accepted more = absurd (nothing_written text n more decides.text_is)
-text_file ReadFault told name bytes text line class before after n decides is accepted more = absurd (nothing_written text n more decides.text_is)
-text_file Usage told name bytes text line class before after n decides is accepted more = absurd decides
-text_file WriteFault told name bytes text line class before after n decides is accepted more = absurd decides
-text_file NoMemory told name bytes text line class before after n decides is accepted more = absurd decides
+pub usage_is : (asked : Result Command UsageFault) (told : Option (List NamedFile)) (before after : ℕ) (failed : Option (List ℕ)) (d : Decided)
+    → Decides asked told before after failed d → d.status ≡ Usage → IsErr asked
+usage_is (Err fault) told before after failed d decides is = refl
+usage_is (Ok command) told before after failed d decides is = absurd (subst IsOfCommand (sym decides.shows.status_is ∙ is) (of_outcome decides.outcome))
 
--- ---- a told file that isn't accepted
+pub usage_comes : (asked : Result Command UsageFault) (told : Option (List NamedFile)) (before after : ℕ) (failed : Option (List ℕ)) (d : Decided)
+    → Decides asked told before after failed d → IsErr asked → (d.status ≡ Usage) × (d.text ≡ [])
+usage_comes (Err fault) told before after failed d decides err = (decides.status_is, decides.text_is)
+usage_comes (Ok command) told before after failed d decides err = absurd (let h : ⊥ = cc err in h)
 
-pub record IsRefusal (status : Status) (text : List ℕ) : Type 0 where
-  pub status_is : status ≡ Refused
-  pub text_is : text ≡ []
+pub never_written : (asked : Result Command UsageFault) (told : Option (List NamedFile)) (before after : ℕ) (failed : Option (List ℕ)) (d : Decided)
+    → Decides asked told before after failed d → d.status ≡ WriteFault → ⊥
+never_written (Err fault) told before after failed d decides is = let e : Usage ≡ WriteFault = sym decides.status_is ∙ is in let h : ⊥ = cc e in h
+never_written (Ok command) told before after failed d decides is = subst IsOfCommand (sym decides.shows.status_is ∙ is) (of_outcome decides.outcome)
 
-refused_report : {A : Type 0} (status : Status) (told : Option (List NamedFile)) (name bytes text line : List ℕ) (before after : ℕ) → DecidesReport status told name before after text line → IsTold told name bytes → ((class : ClassFile) → IsAccepted bytes class → ⊥) → A
-refused_report status told name bytes text line before after decides is rejected =
-    let bytes_is = one_content told name decides.accepts.bytes bytes decides.accepts.held is in
-    absurd (rejected decides.class (subst (λ bs. IsAccepted bs decides.class) bytes_is decides.accepts.accepted))
+-- ---- the files are refused
 
-pub refused_file : (status : Status) (told : Option (List NamedFile)) (name bytes text line : List ℕ) (before after : ℕ) → DecidesFile status told name before after text line → IsTold told name bytes → ((class : ClassFile) → IsAccepted bytes class → ⊥) → after ≡ before → IsRefusal status text
-refused_file NoneSurvive told name bytes text line before after decides is rejected same = refused_report NoneSurvive told name bytes text line before after decides is rejected
-refused_file SomeSurvive told name bytes text line before after decides is rejected same = refused_report SomeSurvive told name bytes text line before after decides is rejected
-refused_file Refused told name bytes text line before after decides is rejected same = record { status_is = refl; text_is = decides.text_is }
-refused_file ReadFault told name bytes text line before after decides is rejected same =
-    absurd (elim decides.read_failed [ inl lacks ↦ told_there told name bytes is lacks.0 | inr rose ↦ (let h : ⊥ = omega arith in h) ])
-refused_file Usage told name bytes text line before after decides is rejected same = absurd decides
-refused_file WriteFault told name bytes text line before after decides is rejected same = absurd decides
-refused_file NoMemory told name bytes text line before after decides is rejected same = absurd decides
+refused_by : (told : Option (List NamedFile)) (before after : ℕ) (command : Command) (o : Outcome) → Comes told command o → after ≡ faults_after before o → status_of o ≡ Refused
+    → Refuses told before after command
+refused_by told before after command (reports classes report) comes counted is = not_reported report Refused (λ h. h) is
+refused_by told before after command (refuses refusal) comes counted is = (refusal, record { comes = comes; no_fault = counted })
+refused_by told before after command (lacks name) comes counted is = absurd (let h : ⊥ = cc is in h)
+refused_by told before after command (fails name) comes counted is = absurd (let h : ⊥ = cc is in h)
 
--- ---- a file that is missing
+pub refused_is : (asked : Result Command UsageFault) (told : Option (List NamedFile)) (before after : ℕ) (failed : Option (List ℕ)) (d : Decided)
+    → Decides asked told before after failed d → d.status ≡ Refused → IfOk asked (Refuses told before after)
+refused_is (Err fault) told before after failed d decides is = tt
+refused_is (Ok command) told before after failed d decides is = refused_by told before after command decides.outcome decides.comes decides.counted (sym decides.shows.status_is ∙ is)
 
-may_hold_there : (told : Option (List NamedFile)) (name bytes : List ℕ) → MayHold told name bytes → Lacks told name → ⊥
-may_hold_there None name bytes may lacks = lacks
-may_hold_there (Some files) name bytes may lacks = cc (may, lacks)
+-- ---- a file isn't read
 
--- nothing is to be written of it
-pub missing_file : (status : Status) (told : Option (List NamedFile)) (name text line : List ℕ) (before after : ℕ) → DecidesFile status told name before after text line → Lacks told name → text ≡ []
-missing_file NoneSurvive told name text line before after decides lacks = absurd (may_hold_there told name decides.accepts.bytes decides.accepts.held lacks)
-missing_file SomeSurvive told name text line before after decides lacks = absurd (may_hold_there told name decides.accepts.bytes decides.accepts.held lacks)
-missing_file Refused told name text line before after decides lacks = decides.text_is
-missing_file ReadFault told name text line before after decides lacks = decides.text_is
-missing_file Usage told name text line before after decides lacks = absurd decides
-missing_file WriteFault told name text line before after decides lacks = absurd decides
-missing_file NoMemory told name text line before after decides lacks = absurd decides
+fault_by : (told : Option (List NamedFile)) (before after : ℕ) (failed : Option (List ℕ)) (command : Command) (o : Outcome) → Comes told command o → after ≡ faults_after before o
+    → IsNamedLast failed o → status_of o ≡ ReadFault → FailsToRead told before after failed command
+fault_by told before after failed command (reports classes report) comes counted named is = not_reported report ReadFault (λ h. h) is
+fault_by told before after failed command (refuses refusal) comes counted named is = absurd (let h : ⊥ = cc is in h)
+fault_by told before after failed command (lacks name) comes counted named is = (name, no_file comes counted)
+fault_by told before after failed command (fails name) comes counted named is = (name, failed_call comes counted named)
 
+pub fault_is : (asked : Result Command UsageFault) (told : Option (List NamedFile)) (before after : ℕ) (failed : Option (List ℕ)) (d : Decided)
+    → Decides asked told before after failed d → d.status ≡ ReadFault → IfOk asked (FailsToRead told before after failed)
+fault_is (Err fault) told before after failed d decides is = tt
+fault_is (Ok command) told before after failed d decides is =
+    fault_by told before after failed command decides.outcome decides.comes decides.counted decides.named (sym decides.shows.status_is ∙ is)
+
+-- an outcome with more faults is a fault, and nothing is written of it
+more_faults : (o : Outcome) (before after : ℕ) → after ≡ faults_after before o → before < after → (status_of o ≡ ReadFault) × (output_of o ≡ [])
+more_faults (reports classes report) before after counted more = absurd (let h : ⊥ = omega (arith, counted, more) in h)
+more_faults (refuses refusal) before after counted more = absurd (let h : ⊥ = omega (arith, counted, more) in h)
+more_faults (lacks name) before after counted more = (refl, refl)
+more_faults (fails name) before after counted more = (refl, refl)
+
+pub fault_comes : (asked : Result Command UsageFault) (told : Option (List NamedFile)) (before after : ℕ) (failed : Option (List ℕ)) (d : Decided)
+    → Decides asked told before after failed d → before < after → (d.status ≡ ReadFault) × (d.text ≡ [])
+fault_comes (Err fault) told before after failed d decides more = absurd (let same = decides.no_fault in let h : ⊥ = omega (arith, same, more) in h)
+fault_comes (Ok command) told before after failed d decides more =
+    let is = more_faults decides.outcome before after decides.counted more in
+    (decides.shows.status_is ∙ is.0, decides.shows.text_is ∙ is.1)
+
+-- ---- the report
+
+reports_by : (status : Status) (told : Option (List NamedFile)) (before after : ℕ) (old new : Option Held) (command : Command) (o : Outcome) → IsReported status → Comes told command o
+    → after ≡ faults_after before o → status_of o ≡ status → new ≡ with_text old (output_of o) → Reports status told before after old new command
+reports_by status told before after old new command (reports classes report) reported comes counted is written =
+    record { classes = classes; report = report; comes = comes; status_is = is; no_fault = counted; written = written }
+reports_by status told before after old new command (refuses refusal) reported comes counted is written = absurd (subst IsReported (sym is) reported)
+reports_by status told before after old new command (lacks name) reported comes counted is written = absurd (subst IsReported (sym is) reported)
+reports_by status told before after old new command (fails name) reported comes counted is written = absurd (subst IsReported (sym is) reported)
+
+pub reports_is : (status : Status) (asked : Result Command UsageFault) (told : Option (List NamedFile)) (before after : ℕ) (failed : Option (List ℕ)) (d : Decided) (old new : Option Held)
+    → IsReported status → Decides asked told before after failed d → d.status ≡ status → new ≡ with_text old d.text → IfOk asked (Reports status told before after old new)
+reports_is status (Err fault) told before after failed d old new reported decides is written = tt
+reports_is status (Ok command) told before after failed d old new reported decides is written =
+    reports_by status told before after old new command decides.outcome reported decides.comes decides.counted (sym decides.shows.status_is ∙ is)
+    (written ∙ ap (with_text old) decides.shows.text_is)
+
+-- nothing more is written of an empty text
 pub nothing_more : {A : Type 0} (text : List ℕ) (n : ℕ) → n < length text → text ≡ [] → A
-nothing_more text n more nothing = absurd (nothing_written text n more nothing)
+nothing_more text n more nothing = absurd (let none : length text ≡ 0 = ap length nothing in let h : ⊥ = omega (arith, none, more) in h)
+
+stops_by : (told : Option (List NamedFile)) (before after : ℕ) (old new : Option Held) (command : Command) (o : Outcome) → Comes told command o → after ≡ faults_after before o
+    → AddsPart old (output_of o) new → Stops told before after old new command
+stops_by told before after old new command (reports classes report) comes counted part = record { classes = classes; report = report; comes = comes; no_fault = counted; part = part }
+stops_by told before after old new command (refuses refusal) comes counted part = nothing_more [] part.0 part.1 refl
+stops_by told before after old new command (lacks name) comes counted part = nothing_more [] part.0 part.1 refl
+stops_by told before after old new command (fails name) comes counted part = nothing_more [] part.0 part.1 refl
+
+pub stops_is : (asked : Result Command UsageFault) (told : Option (List NamedFile)) (before after : ℕ) (failed : Option (List ℕ)) (d : Decided) (old new : Option Held)
+    → Decides asked told before after failed d → AddsPart old d.text new → IfOk asked (Stops told before after old new)
+stops_is (Err fault) told before after failed d old new decides part = tt
+stops_is (Ok command) told before after failed d old new decides part =
+    stops_by told before after old new command decides.outcome decides.comes decides.counted (subst (λ (text : List ℕ). AddsPart old text new) decides.shows.text_is part)
+
+neither : (some : Bool) → cond some SomeSurvive NoneSurvive ≢ NoneSurvive → cond some SomeSurvive NoneSurvive ≢ SomeSurvive → ⊥
+neither true not_none not_some = not_some refl
+neither false not_none not_some = not_none refl
+
+-- under every other status nothing is written
+other_output : (o : Outcome) → status_of o ≢ NoneSurvive → status_of o ≢ SomeSurvive → output_of o ≡ []
+other_output (reports classes report) not_none not_some = absurd (neither (some_survive report) not_none not_some)
+other_output (refuses refusal) not_none not_some = refl
+other_output (lacks name) not_none not_some = refl
+other_output (fails name) not_none not_some = refl
+
+pub nothing_written : (asked : Result Command UsageFault) (told : Option (List NamedFile)) (before after : ℕ) (failed : Option (List ℕ)) (d : Decided)
+    → Decides asked told before after failed d → d.status ≢ NoneSurvive → d.status ≢ SomeSurvive → d.text ≡ []
+nothing_written (Err fault) told before after failed d decides not_none not_some = decides.text_is
+nothing_written (Ok command) told before after failed d decides not_none not_some =
+    let is = decides.shows.status_is in
+    decides.shows.text_is ∙ other_output decides.outcome (λ e. not_none (is ∙ e)) (λ e. not_some (is ∙ e))
+
+-- an empty text leaves what is held
+pub held_as_before : (old : Option Held) → with_text old [] ≡ old
+held_as_before None = refl
+held_as_before (Some held) = ap (λ (bytes : List ℕ). Some (let h : Held = record { bytes = bytes; end = held.end } in h)) (append-nil held.bytes)
 
 -- ---- the line
 
-line_of_file : (status : Status) (told : Option (List NamedFile)) (name text line : List ℕ) (before after : ℕ) → DecidesFile status told name before after text line → line ≡ line_of status (Ok name)
-line_of_file NoneSurvive told name text line before after decides = decides.line_is
-line_of_file SomeSurvive told name text line before after decides = decides.line_is
-line_of_file Refused told name text line before after decides = decides.line_is
-line_of_file ReadFault told name text line before after decides = decides.line_is
-line_of_file Usage told name text line before after decides = absurd decides
-line_of_file WriteFault told name text line before after decides = absurd decides
-line_of_file NoMemory told name text line before after decides = absurd decides
+report_line : (asked : Result Command UsageFault) (told : Option (List NamedFile)) (before after : ℕ) (failed : Option (List ℕ)) (line : List ℕ) (some : Bool) → line ≡ []
+    → IsLine (cond some SomeSurvive NoneSurvive) asked told before after failed line
+report_line (Ok command) told before after failed line true is = is
+report_line (Ok command) told before after failed line false is = is
+report_line (Err fault) told before after failed line true is = is
+report_line (Err fault) told before after failed line false is = is
 
-pub line_is : (command : Result (List ℕ) UsageFault) (told : Option (List NamedFile)) (before after : ℕ) (d : Decided) → Decides command told before after d → d.line ≡ line_of d.status command
-line_is (Ok name) told before after d decides = line_of_file d.status told name d.text d.line before after decides
-line_is (Err fault) told before after d decides = rw decides.0 decides.3
+line_by : (told : Option (List NamedFile)) (before after : ℕ) (failed : Option (List ℕ)) (command : Command) (o : Outcome) (line : List ℕ) → Comes told command o
+    → after ≡ faults_after before o → IsNamedLast failed o → line ≡ line_of o → IsLine (status_of o) (Ok command) told before after failed line
+line_by told before after failed command (reports classes report) line comes counted named is = report_line (Ok command) told before after failed line (some_survive report) is
+line_by told before after failed command (refuses refusal) line comes counted named is = (refusal, record { comes = comes; no_fault = counted }, is)
+line_by told before after failed command (lacks name) line comes counted named is = (name, no_file comes counted, is)
+line_by told before after failed command (fails name) line comes counted named is = (name, failed_call comes counted named, is)
+
+pub line_is : (asked : Result Command UsageFault) (told : Option (List NamedFile)) (before after : ℕ) (failed : Option (List ℕ)) (d : Decided)
+    → Decides asked told before after failed d → IsLine d.status asked told before after failed d.line
+line_is (Err fault) told before after failed d decides =
+    subst (λ (s : Status). IsLine s (Err fault) told before after failed d.line) (sym decides.status_is) decides.line_is
+line_is (Ok command) told before after failed d decides =
+    subst (λ (s : Status). IsLine s (Ok command) told before after failed d.line) (sym decides.shows.status_is)
+    (line_by told before after failed command decides.outcome d.line decides.comes decides.counted decides.named decides.shows.line_is)
+
+-- ---- a store that tells
+
+abbrev OneOutcome : Type 0
+OneOutcome = (store : List NamedFile) (list : Option (List ℕ)) (operands : List (List ℕ)) (outcome other : Outcome) → IsOutcome (Some store) list operands outcome
+    → IsOutcome (Some store) list operands other → (IsFault outcome → ⊥) → (IsFault other → ⊥) → outcome ≡ other
+
+decided_of : (asked : Result Command UsageFault) (told : Option (List NamedFile)) (before after : ℕ) (failed : Option (List ℕ)) (d : Decided) (command : Command) (store : List NamedFile)
+    → Decides asked told before after failed d → asked ≡ Ok command → told ≡ Some store → DecidesNamed (Some store) (list_in command) (operands_in command) before after failed d
+decided_of asked told before after failed d command store decides is tells =
+    subst (λ (t : Option (List NamedFile)). Decides (Ok command) t before after failed d) tells
+    (subst (λ (a : Result Command UsageFault). Decides a told before after failed d) is decides)
+
+no_fault_in : (o : Outcome) (before after : ℕ) → after ≡ faults_after before o → after ≡ before → IsFault o → ⊥
+no_fault_in (reports classes report) before after counted same fault = fault
+no_fault_in (refuses refusal) before after counted same fault = fault
+no_fault_in (lacks name) before after counted same fault = fault
+no_fault_in (fails name) before after counted same fault = omega (arith, counted, same)
+
+-- what is decided shows the outcome that comes, where no call failed
+pub shown : OneOutcome → (asked : Result Command UsageFault) (told : Option (List NamedFile)) (before after : ℕ) (failed : Option (List ℕ)) (d : Decided) (command : Command)
+    (store : List NamedFile) (o : Outcome) → Decides asked told before after failed d → asked ≡ Ok command → told ≡ Some store → Comes (Some store) command o → (IsFault o → ⊥)
+    → after ≡ before → Shows o d
+shown law asked told before after failed d command store o decides is tells comes fine same =
+    let of = decided_of asked told before after failed d command store decides is tells in
+    subst (λ (x : Outcome). Shows x d)
+    (law store (list_in command) (operands_in command) of.outcome o of.comes comes (no_fault_in of.outcome before after of.counted same) fine) of.shows
+
+-- whether an outcome is a fault
+faulty : (x : Outcome) → (IsFault x) ⊎ (IsFault x → ⊥)
+faulty (reports classes report) = inr (λ h. h)
+faulty (refuses refusal) = inr (λ h. h)
+faulty (lacks name) = inr (λ h. h)
+faulty (fails name) = inl tt
+
+fault_shows : (x : Outcome) → IsFault x → (status_of x ≡ ReadFault) × (output_of x ≡ [])
+fault_shows (reports classes report) fault = absurd fault
+fault_shows (refuses refusal) fault = absurd fault
+fault_shows (lacks name) fault = absurd fault
+fault_shows (fails name) fault = (refl, refl)
+
+-- it shows that outcome, or a fault
+pub shown_or_fault : OneOutcome → (asked : Result Command UsageFault) (told : Option (List NamedFile)) (before after : ℕ) (failed : Option (List ℕ)) (d : Decided) (command : Command)
+    (store : List NamedFile) (o : Outcome) → Decides asked told before after failed d → asked ≡ Ok command → told ≡ Some store → Comes (Some store) command o → (IsFault o → ⊥)
+    → Shows o d ⊎ ((d.status ≡ ReadFault) × (d.text ≡ []))
+shown_or_fault law asked told before after failed d command store o decides is tells comes fine =
+    let of = decided_of asked told before after failed d command store decides is tells in
+    elim (faulty of.outcome) [
+      | inl fault ↦ (let f = fault_shows of.outcome fault in inr (of.shows.status_is ∙ f.0, of.shows.text_is ∙ f.1))
+      | inr none ↦ inl (subst (λ (x : Outcome). Shows x d) (law store (list_in command) (operands_in command) of.outcome o of.comes comes none fine) of.shows)
+    ]

@@ -1,10 +1,7 @@
-pub mod Words
-pub mod Taking
-pub mod Items
-pub mod FirstForm
-pub mod Report
-pub mod Fetching
+pub mod Asked
+pub mod Outcome
+pub mod Lines
 pub mod Writing
 pub mod Status
 pub mod Answer
-pub mod Safety
+pub mod Decided

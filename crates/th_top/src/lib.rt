@@ -1,29 +1,25 @@
 //! The top call: words, files and sinks in, a status out.
 //!
-//! `thresher` reads the words, reads the class file that they name, and writes the report of the
-//! class. Its clauses say exactly which status comes when, what is written, and that every static
-//! field and Activity class that some run joins is printed as surviving.
+//! `thresher` reads the words, reads the files that they name, and writes the report of their
+//! program. Its clauses say exactly which status comes when and what is written, and that every
+//! static field and Activity class that some run joins survives in the report. `host_words` is where
+//! the words of a program come from.
 //!
-//! `specs/` has what is accepted (`FirstForm`), the report (`Report`), what it says of runs
-//! (`Safety`) and the cases of the answer (`Answer`); `laws` has what holds of accepted classes
-//! apart from the program.
+//! `specs/` has which words are a command (`Asked`), what comes of one (`Outcome`), the lines on
+//! the errors (`Lines`), what is written (`Writing`), and what the clauses say (`Answer`); `laws`
+//! has what holds of outcomes apart from the program.
 #![tactic(auto)]
 
+mod asked;
 mod decide;
-mod fetching;
-mod first_form;
-mod items;
+mod host;
 pub mod laws;
-mod members;
-mod reader;
-mod report;
+mod lines;
 mod status;
-mod taking;
 mod top;
-mod value;
-mod words;
 mod writing;
 
 pub use decide::Decided;
+pub use host::host_words;
 pub use status::Status;
 pub use top::thresher;

@@ -1,0 +1,14 @@
+pub mod Advances
+pub mod Apart
+pub mod Arguments
+pub mod Begun
+pub mod Dropping
+pub mod Entries
+pub mod Following
+pub mod Holding
+pub mod Lineages
+pub mod Opened
+pub mod Short
+pub mod Statics
+pub mod Stood
+pub mod Written

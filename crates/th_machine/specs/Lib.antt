@@ -1,0 +1,9 @@
+pub mod Beginning
+pub mod Holding
+pub mod Making
+pub mod Opening
+pub mod Running
+pub mod Standing
+pub mod Starting
+pub mod Stepping
+pub mod Writing

@@ -1,0 +1,7 @@
+use Rattle.th_top.proofs.Once.{same_outcome}
+use Rattle.th_top.proofs.laws.one_outcome.Goals as goal
+
+pub returns : goal.returns
+returns c =
+    same_outcome (record { one = c.one_input.ensures.one; not_both = c.one_input.ensures.not_both; one_end = c.one_input.ensures.one_end })
+    (record { accepted = c.one_outcome.ensures.program; refused = c.one_outcome.ensures.refusal; not_both = c.one_outcome.ensures.not_both })
