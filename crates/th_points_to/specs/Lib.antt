@@ -1,0 +1,11 @@
+pub mod Places
+pub mod Asked
+pub mod Opening
+pub mod Rows
+pub mod Registers
+pub mod Tables
+pub mod Storing
+pub mod Rounds
+pub mod Listing
+pub mod Initialisers
+pub mod Found
