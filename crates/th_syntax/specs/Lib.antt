@@ -1,8 +1,5 @@
-pub mod Names
 pub mod Flags
-pub mod Layout
 pub mod Refs
-pub mod Grammar
 pub mod Flow
 pub mod WorkedFlow
 pub mod Machine
