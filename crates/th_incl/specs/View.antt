@@ -1,5 +1,5 @@
 -- What contracts see of a solver.
-use Rattle.std.specs.Prelude.{◌≡◌, ℕ, ◌+◌, true, false, List, [], ◌∷◌, ◌++◌, replicate}
+use Rattle.std.specs.Prelude.{◌≡◌, ◌⊎◌, ◌<◌, ◌≤◌, ℕ, ◌+◌, true, false, List, [], ◌∷◌, ◌++◌, replicate}
 use Rattle.th_base.specs.IdSet.{has}
 use Rattle.th_incl.specs.Least.{set_at}
 use Rattle.th_incl.specs.declared.constraints.Inclusion.{Inclusion}
@@ -31,6 +31,11 @@ with_sets v more = record v {
 pub record Grows (sets : List (List ℕ)) (grown : List ℕ) (sets' : List (List ℕ)) (grown' : List ℕ) : Type 0 where
   pub stays : (i : ℕ) → has grown i ≡ true → has grown' i ≡ true
   pub others : (i : ℕ) → has grown' i ≡ false → set_at sets' i ≡ set_at sets i
+
+-- where a set came to be among those that grew, there are more pairs than before
+pub record TellsGrowth (grown : List ℕ) (pairs : ℕ) (grown' : List ℕ) (pairs' : ℕ) : Type 0 where
+  pub more : pairs ≤ pairs'
+  pub told : (grown' ≡ grown) ⊎ (pairs < pairs')
 
 -- one base pair more
 abbrev pub with_base : SolverView → ℕ → ℕ → SolverView

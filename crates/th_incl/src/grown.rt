@@ -1,5 +1,5 @@
 // Which sets grew.
-ghost use Rattle.std.specs.Prelude.{◌≡◌, ◌↔◌, ◌⊎◌, ℕ, [], true, OnOk, IsTrue};
+ghost use Rattle.std.specs.Prelude.{◌≡◌, ◌<◌, ◌↔◌, ◌⊎◌, ℕ, [], true, OnOk, IsTrue};
 ghost use Rattle.th_base.specs.IdSet.{has};
 ghost use Rattle.th_incl.specs.Parts.{IsOn};
 
@@ -38,12 +38,13 @@ impl Grown {
         }
     }
 
-    // Lists a set.
-    pub(crate) fn mark(&mut self, set: usize) -> Result<(), AllocError>
-        ensures here { OnOk result (has self.new set ≡ true) }
+    // Lists a set into which so many numbers came, where some did.
+    pub(crate) fn mark(&mut self, set: usize, count: u64) -> Result<(), AllocError>
+        ensures here { OnOk result (0 < count → has self.new set ≡ true) }
         ensures stays { OnOk result ((k : ℕ) → has self.old k ≡ true → has self.new k ≡ true) }
+        ensures told { OnOk result ((self.new ≡ self.old) ⊎ (0 < count)) }
     {
-        if is_on(self.is_listed.as_slice(), set) {
+        if count == 0 || is_on(self.is_listed.as_slice(), set) {
             return Ok(());
         }
         self.sets.push(set)?;

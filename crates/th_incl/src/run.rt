@@ -3,7 +3,7 @@ ghost use Rattle.std.specs.Prelude.{◌≡◌, ◌<◌, ◌≤◌, ℕ, [], true
 ghost use Rattle.th_incl.specs.Kept.{constraints_of, IsConsistent, Kept, Settles, Stops, Steps};
 ghost use Rattle.th_incl.specs.Least.{In, is_in, IsLeast, HasMoreThan};
 ghost use Rattle.th_incl.specs.Run.{Progress};
-ghost use Rattle.th_incl.specs.View.{Grows};
+ghost use Rattle.th_incl.specs.View.{Grows, TellsGrowth};
 
 use crate::news::News;
 use crate::passing::spread;
@@ -27,6 +27,7 @@ fn settle(
     requires apart { (x : ℕ) → In work.old.news.items set x → is_in work.old.sets.items set x ≡ false }
     ensures within { OnOk result (work.new.pairs ≤ limit) }
     ensures grows { OnOk result (Grows work.old.sets.items work.old.grown work.new.sets.items work.new.grown) }
+    ensures told { OnOk result (TellsGrowth work.old.grown work.old.pairs work.new.grown work.new.pairs) }
     ensures settles { IfOk result (λ r. MatchOption r (Stops limit set work.old work.new) (Settles set work.old work.new)) }
 {
     let fresh = take_news(alloc, &mut work.news, set).into_set()?;
@@ -36,7 +37,7 @@ fn settle(
         return Ok(None);
     }
     absorb(&mut work.sets, set, &fresh)?;
-    work.grown.mark(set)?;
+    work.grown.mark(set, count)?;
     work.pairs += count;
     Ok(Some(fresh))
 }
@@ -55,6 +56,7 @@ fn step(
     requires inside { set < system.now.sets }
     ensures within { OnOk result (work.new.pairs ≤ limit) }
     ensures grows { OnOk result (Grows work.old.sets.items work.old.grown work.new.sets.items work.new.grown) }
+    ensures told { OnOk result (TellsGrowth work.old.grown work.old.pairs work.new.grown work.new.pairs) }
     ensures steps { IfOk result (λ went. went ≡ true → Steps system.now set work.old work.new) }
     ensures stops { IfOk result (λ went. went ≡ false → Stops limit set work.old work.new) }
 {
@@ -84,6 +86,7 @@ fn round(alloc: Global, system: &System, work: &mut Work, limit: u64) -> Result<
     ensures kept { OnOk result (Kept system.now work.new) }
     ensures within { OnOk result (work.new.pairs ≤ limit) }
     ensures grows { OnOk result (Grows work.old.sets.items work.old.grown work.new.sets.items work.new.grown) }
+    ensures told { OnOk result (TellsGrowth work.old.grown work.old.pairs work.new.grown work.new.pairs) }
     ensures progress { IfOk result (λ went. went ≡ true → Progress work.old.sets.items work.new.sets.items [] work.new.queue.items) }
     ensures over { IfOk result (λ went. went ≡ false → HasMoreThan (constraints_of system.now) limit) }
 {
@@ -110,6 +113,7 @@ pub(crate) fn rounds(
     ensures kept { OnOk result (Kept system.now work.new) }
     ensures within { OnOk result (work.new.pairs ≤ limit) }
     ensures grows { OnOk result (Grows work.old.sets.items work.old.grown work.new.sets.items work.new.grown) }
+    ensures told { OnOk result (TellsGrowth work.old.grown work.old.pairs work.new.grown work.new.pairs) }
     ensures least { IfOk result (λ done. done ≡ true → IsLeast (constraints_of system.now) work.new.sets.items) }
     ensures over { IfOk result (λ done. done ≡ false → HasMoreThan (constraints_of system.now) limit) }
 {

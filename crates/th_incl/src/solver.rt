@@ -1,7 +1,7 @@
 // A solver that can be added to, and the solution from nothing.
 ghost use Rattle.std.specs.Prelude.{◌≡◌, ◌<◌, [], length, true, false, IfOk, OnOk};
-ghost use Rattle.th_incl.specs.Least.{IsLeast, IsInRange, TellsWithin, HasMoreThan};
-ghost use Rattle.th_incl.specs.View.{Grows, opening, with_sets, with_base, with_copy, with_bases, with_copies};
+ghost use Rattle.th_incl.specs.Least.{IsLeast, IsInRange, TellsWithin, HasMoreThan, pair_count};
+ghost use Rattle.th_incl.specs.View.{Grows, TellsGrowth, opening, with_sets, with_base, with_copy, with_bases, with_copies};
 
 use crate::additions::{add_base, add_copy, grow};
 use crate::filter::filters_of;
@@ -134,6 +134,7 @@ impl Solver {
         ensures least { IfOk result (λ within. within ≡ true → IsLeast self.new.constraints self.new.sets) }
         ensures more { IfOk result (λ within. within ≡ false → HasMoreThan self.old.constraints limit) }
         ensures grows { OnOk result (Grows self.old.sets self.old.grown self.new.sets self.new.grown) }
+        ensures told { OnOk result (TellsGrowth self.old.grown (pair_count self.old.sets) self.new.grown (pair_count self.new.sets)) }
         ensures constraints { self.new.constraints ≡ self.old.constraints }
     {
         if !self.is_whole {

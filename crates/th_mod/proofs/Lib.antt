@@ -5,3 +5,4 @@ pub mod Initialisers
 pub mod Least
 pub mod Parts
 pub mod Transitive
+pub mod Standing

@@ -7,8 +7,9 @@ ghost use Rattle.th_ir.specs.declared.program.RegProgram.{RegProgram};
 ghost use Rattle.th_ir.specs.Machine.{RegFrame, RegState};
 ghost use Rattle.th_ir.specs.Rules.{LeastFacts};
 ghost use Rattle.th_ir.specs.Summaries.{LeastMods, sums_of};
-ghost use Rattle.th_ir.specs.Unchanged.{IsUnchanged, IsWithinCall, last_of};
+ghost use Rattle.th_ir.specs.Unchanged.{last_of};
 ghost use Rattle.th_ir.specs.WellFormed.{IsWellFormed};
+ghost use Rattle.th_mod.specs.Kept.{IsAsBefore, KeepsFrame};
 ghost use Rattle.th_mod.specs.Told.{NodesHaveMethods};
 
 /// What `summaries` asks of a program holds of every well-formed one.
@@ -16,10 +17,10 @@ pub fn well_formed_is_enough()
     ensures { (h : List ClassInfo) (p : RegProgram) → IsWellFormed h p → NodesHaveMethods p }
 {}
 
-/// From the entry of a method on, as long as its frame stands, nothing changes but what the summary
-/// that `summaries` lists for it writes and makes.
+/// From the entry of a method on, as long as its frame isn't left, the frames below it are as they were, and
+/// nothing else changes but what the summary that `summaries` lists for it writes and makes.
 pub fn unchanged()
     ensures { (h : List ClassInfo) (p : RegProgram) (facts : Facts) (mods : List Mods) (since : List RegState) (first : RegState) (earlier : List RegState)
-        (lower : List RegFrame) (m : ℕ) → IsWellFormed h p → LeastFacts h p facts → LeastMods h p facts mods → IsWithinCall h p since first earlier lower m
-        → IsUnchanged (sums_of mods) m first (last_of since first) }
+        (lower : List RegFrame) (m : ℕ) → IsWellFormed h p → LeastFacts h p facts → LeastMods h p facts mods → KeepsFrame h p since first earlier lower m
+        → IsAsBefore (sums_of mods) lower m first (last_of since first) }
 {}

@@ -7,7 +7,7 @@ ghost use Rattle.th_points_to.specs.Tables.{AreTables};
 ghost use Rattle.th_points_to.specs.declared.tables.Tables.{Tables};
 ghost use Rattle.std.specs.List.{AllByRecursion};
 ghost use Rattle.th_base.specs.IdSet.{has};
-ghost use Rattle.th_incl.specs.Least.{set_at};
+ghost use Rattle.th_incl.specs.Least.{set_at, pair_count};
 ghost use Rattle.th_ir.specs.declared.program.RegProgram.{RegProgram};
 ghost use Rattle.th_ir.specs.FactSets.{FactSets};
 ghost use Rattle.th_points_to.specs.declared.found.TheConstants.{EVERY_SITE};
@@ -106,6 +106,8 @@ pub(crate) fn begin(
     requires every { (x : ℕ) → x < layout.sites → has (set_at filters.items EVERY_SITE) x ≡ true }
     ensures state { IfOk result (λ state. (h : List ClassInfo) (ts : Tables) → AreTables h layout program.now filters.items ts → IsState h layout program.now ts state) }
     ensures round { IfOk result (λ state. (h : List ClassInfo) → IsRoundOf h layout program.now [] state) }
+    ensures none { IfOk result (λ state. pair_count state.found.solver.sets ≡ 0) }
+    ensures grown { IfOk result (λ state. state.found.solver.grown ≡ []) }
 {
     let mut found = nothing(alloc, layout, filters)?;
     reach_all(&mut found, layout, program.harness.as_slice())?;

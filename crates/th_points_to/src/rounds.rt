@@ -9,6 +9,7 @@ ghost use Rattle.th_ir.specs.WellFormed.{AreNumbered};
 ghost use Rattle.th_points_to.specs.Found.{Holds};
 ghost use Rattle.th_points_to.specs.Opening.{IsOpen};
 ghost use Rattle.th_points_to.specs.Rounds.{IsRoundOf, IsState, KeepsSets};
+ghost use Rattle.th_incl.specs.View.{TellsGrowth};
 
 use crate::found::Found;
 use crate::opening::{meet, open_nodes};
@@ -213,6 +214,7 @@ fn run(
         → IfOk result (λ within. within ≡ true → IsRoundOf hierarchy.now layout program.now state.new.found.solver.grown state.new) }
     ensures sound { IsRoundOf hierarchy.now layout program.now [] state.old → OnOk result ((u : FactSets) → HoldsRules hierarchy.now program.now u → Holds layout state.new.found u) }
     ensures constraints { state.new.found.solver.constraints ≡ state.old.found.solver.constraints }
+    ensures told { OnOk result (TellsGrowth state.old.found.solver.grown (pair_count state.old.found.solver.sets) state.new.found.solver.grown (pair_count state.new.found.solver.sets)) }
     ensures opened { state.new.opened ≡ state.old.opened }
 {
     let within = state.found.solver.run_within(alloc, limit)?;
@@ -259,7 +261,9 @@ pub(crate) fn rounds(
     tables: &Tables,
     limit: u64,
 ) -> Result<bool, AllocError>
-    requires { IsState hierarchy.now layout program.now tables.now state.old }
+    requires state { IsState hierarchy.now layout program.now tables.now state.old }
+    requires few { pair_count state.old.found.solver.sets ≤ limit }
+    requires grown { state.old.found.solver.grown ≡ [] }
     ensures state { OnOk result (IsState hierarchy.now layout program.now tables.now state.new) }
     ensures least { IfOk result (λ done. done ≡ true → IsLeast state.new.found.solver.constraints state.new.found.solver.sets) }
     ensures few { IfOk result (λ done. done ≡ true → pair_count state.new.found.solver.sets ≤ limit) }
@@ -270,7 +274,7 @@ pub(crate) fn rounds(
     ensures sound { AreNumbered hierarchy.now → IsRoundOf hierarchy.now layout program.now [] state.old
         → OnOk result ((u : FactSets) → HoldsRules hierarchy.now program.now u → Holds layout state.new.found u) }
 {
-    for _ in 0..u64::MAX {
+    loop {
         let within = run(state, alloc, layout, program, hierarchy, tables, limit)?;
         if !within {
             return Ok(false);
@@ -291,6 +295,4 @@ pub(crate) fn rounds(
         )?;
         open_some(state, alloc, layout, program, hierarchy, tables, count)?;
     }
-    // No run makes so many rounds.
-    Err(AllocError)
 }

@@ -2,7 +2,7 @@ use Rattle.std.proofs.Common.{◌≡◌, ◌<◌, ◌≤◌, ℕ, true, [], drop
 use Rattle.th_base.specs.IdSet.{has}
 use Rattle.th_incl.specs.Run.{Queued, Progress}
 use Rattle.th_incl.specs.Kept.{IsConsistent}
-use Rattle.th_incl.specs.View.{Grows}
+use Rattle.th_incl.specs.View.{Grows, TellsGrowth}
 use Rattle.th_incl.proofs.run.round.Given as goal
 
 abbrev pub invariant-loop-set : goal.invariant-loop-set
@@ -12,5 +12,6 @@ invariant-loop-set l = record {
   front : (k : ℕ) → has l.set-items k ≡ true → k < l.system.sets;
   within : l.work.pairs ≤ l.limit;
   grows : Grows l.fn.work.sets.items l.fn.work.grown l.work.sets.items l.work.grown;
+  told : TellsGrowth l.fn.work.grown l.fn.work.pairs l.work.grown l.work.pairs;
   progress : Progress l.fn.work.sets.items l.work.sets.items [] l.work.queue.items;
 }

@@ -1,7 +1,8 @@
-use Rattle.std.proofs.Common.{◌≡◌, length, set, sym, ap, ◌∙◌, subst, arith, get_or-set_same, refl}
-use Rattle.th_base.specs.IdSet.{has, IsAscending}
+use Rattle.std.proofs.Common.{◌≡◌, ◌⊎◌, inl, inr, ◌<◌, ℕ, false, List, [], length, set, sym, ap, ◌∙◌, subst, arith, get_or-set_same, get_or-set_other, refl}
+use Rattle.std.proofs.lemmas.Bool.{cases_eq}
+use Rattle.th_base.specs.IdSet.{has, union_of, IsAscending}
 use Rattle.th_incl.specs.Least.{set_at}
-use Rattle.th_incl.proofs.Rounds.{set_twice}
+use Rattle.th_incl.proofs.Rounds.{set_twice, no_length}
 use Rattle.th_incl.proofs.Members.{apart_by}
 use Rattle.th_incl.proofs.run.settle.Goals as goal
 
@@ -26,4 +27,27 @@ returns-then-count-limit-clause-settles c =
       news = back ∙ ap (λ l. set w.news.items i l) (sym here);
       queue = refl;
       pairs = refl;
+    }
+
+-- a set into which nothing came is as it was
+pub returns-clause-grows : goal.returns-clause-grows
+returns-clause-grows c =
+    let w = c.args.work.now in
+    let i = c.args.set in
+    let fresh = c.in_ok-fresh.fresh in
+    let old : List ℕ = set_at w.sets.items i in
+    let sets : c.absorb.new.sets.items ≡ set w.sets.items i (union_of old fresh) = c.in_ok-absorb.ensures.sets in
+    record {
+      stays = c.in_ok-mark.ensures.stays;
+      others = λ k e. elim (cases_eq k i) [
+        | inl same ↦
+            (let none : c.len-count.result ≡ 0 = elim (cases_eq c.len-count.result 0) [
+              | inl is ↦ is
+              | inr apart ↦ absurd (let there = c.in_ok-mark.ensures.here (omega (arith, apart)) in let gone = subst (λ (n : ℕ). has c.mark.new.self n ≡ false) same e in cc)
+            ] in
+            let empty : fresh ≡ [] = no_length fresh (omega (arith, none, c.len-count.ensures)) in
+            subst (λ (n : ℕ). set_at c.absorb.new.sets.items n ≡ set_at w.sets.items n) (sym same)
+            (ap (λ (ss : List (List ℕ)). set_at ss i) sets ∙ get_or-set_same w.sets.items i (union_of old fresh) [] c.requires.sets ∙ ap (union_of old) empty))
+        | inr apart ↦ ap (λ (ss : List (List ℕ)). set_at ss k) sets ∙ get_or-set_other w.sets.items i k (union_of old fresh) [] apart
+      ];
     }

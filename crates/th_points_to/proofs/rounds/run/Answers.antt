@@ -31,3 +31,6 @@ pub returns-clause-few : goal.returns-clause-few
 returns-clause-few c = λ done.
     (c.in_ok-within.ensures.within c.run_within.new.self.sets
     (subst (λ d. IsLeast d c.run_within.new.self.sets) c.in_ok-within.ensures.constraints (c.in_ok-within.ensures.least done))).0 done
+
+pub returns-clause-told : goal.returns-clause-told
+returns-clause-told c = c.in_ok-within.ensures.told

@@ -23,8 +23,14 @@ pub begin-requires-clause-every : goal.begin-requires-clause-every
 begin-requires-clause-every c = λ x less.
     c.in_ok-filters.ensures.every x (omega (arith, less, c.in_ok-layout.ensures.sites, c.in_ok-sites.ensures.same, c.len-2.ensures))
 
-pub rounds-requires : goal.rounds-requires
-rounds-requires c = c.in_ok-state.ensures.state c.args.hierarchy.now c.in_ok-tables.tables (c.in_ok-tables.ensures c.in_ok-filters.filters.items c.in_ok-filters.ensures.filters)
+pub rounds-requires-clause-state : goal.rounds-requires-clause-state
+rounds-requires-clause-state c = c.in_ok-state.ensures.state c.args.hierarchy.now c.in_ok-tables.tables (c.in_ok-tables.ensures c.in_ok-filters.filters.items c.in_ok-filters.ensures.filters)
+
+pub rounds-requires-clause-few : goal.rounds-requires-clause-few
+rounds-requires-clause-few c = omega (arith, c.in_ok-state.ensures.none)
+
+pub rounds-requires-clause-grown : goal.rounds-requires-clause-grown
+rounds-requires-clause-grown c = c.in_ok-state.ensures.grown
 
 pub list-requires-clause-laid : goal.list-requires-clause-laid
 list-requires-clause-laid c = c.in_ok-done.ensures.state.laid
