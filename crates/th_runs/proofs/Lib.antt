@@ -24,3 +24,4 @@ pub mod Texts
 pub mod Sounding
 pub mod WorkedActivity
 pub mod WorkedRows
+pub mod WorkedWays

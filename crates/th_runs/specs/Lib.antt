@@ -7,3 +7,4 @@ pub mod Verified
 pub mod Always
 pub mod Worked
 pub mod WorkedRows
+pub mod WorkedWays

@@ -1,6 +1,6 @@
 // Small states, programs and slots, and what the definitions say of them.
 ghost use Rattle.std.specs.List.{AllByRecursion};
-ghost use Rattle.std.specs.Prelude.{◌≡◌, ◌↔◌, ◌∷◌, List, None, Option, Some, [], codes, negsuc, pos, true, ℕ};
+ghost use Rattle.std.specs.Prelude.{◌≡◌, ◌↔◌, ◌∷◌, List, None, Option, Some, [], codes, map, negsuc, pos, true, ℕ};
 ghost use Rattle.th_base.specs.declared.lifecycle.Lifecycle.TheVariants.{Any};
 ghost use Rattle.th_base.specs.declared.number.ClassId.{ClassId};
 ghost use Rattle.th_base.specs.declared.number.MethodId.{MethodId};
@@ -14,16 +14,18 @@ ghost use Rattle.th_runs.specs.Sound.{IsClosed};
 ghost use Rattle.th_runs.specs.Verified.{IsVerified};
 ghost use Rattle.th_runs.specs.Worked.{array_with, dangling_states, field_of, kinds_of_each, leading_state, one_field, other_slots, running_interface, slots_of_each};
 ghost use Rattle.th_runs.specs.WorkedRows.{acts_on, all_stuck, call_on, moves_on_short, nested, nested_store, plain_interface, special_call, writing_program, written_last};
+ghost use Rattle.th_runs.specs.WorkedWays.{constants_unset, constructed, constructing_program, interface_call, interface_calls, missed_loads, missed_stores, moves_in_forms, static_without_code};
 ghost use Rattle.th_syntax.specs.Effects.{Calls, Ends, GoesOn, SetsObject};
-ghost use Rattle.th_syntax.specs.Initial.{constant_value};
+ghost use Rattle.th_syntax.specs.Initial.{constant_value, initial};
 ghost use Rattle.th_syntax.specs.Machine.{class_id, method_id};
 ghost use Rattle.th_syntax.specs.Program.{is_launchable};
-ghost use Rattle.th_syntax.specs.WorkedEffects.{i, l};
+ghost use Rattle.th_syntax.specs.WorkedEffects.{at, gives, i, l, ref};
 ghost use Rattle.th_syntax.specs.WorkedFiles.{activity_value};
-ghost use Rattle.th_syntax.specs.WorkedRuns.{LeadsTo, launch};
+ghost use Rattle.th_syntax.specs.WorkedRuns.{LeadsTo, at_rest, bundle_program, constant_program, launch};
 ghost use Rattle.th_syntax.specs.declared.class_file.ClassFile.{ClassFile};
 ghost use Rattle.th_syntax.specs.declared.class_file.Constant.TheVariants as constant;
-ghost use Rattle.th_syntax.specs.declared.instr.Instr.TheVariants.{Goto, Int, LArith, Long, Nop, Return};
+ghost use Rattle.th_syntax.specs.declared.event.Event.TheVariants.{Handler};
+ghost use Rattle.th_syntax.specs.declared.instr.Instr.TheVariants.{GetField, Goto, Int, InvokeVirtual, LArith, Long, Nop, Return, Stack};
 ghost use Rattle.th_syntax.specs.declared.kind.SlotKind.TheVariants as kind;
 ghost use Rattle.th_syntax.specs.declared.kind.SlotKind.{SlotKind};
 ghost use Rattle.th_syntax.specs.declared.machine.Frame.TheVariants.{Code as CodeFrame, Init as InitFrame, Launch as LaunchFrame};
@@ -31,6 +33,7 @@ ghost use Rattle.th_syntax.specs.declared.machine.Frame.{Frame};
 ghost use Rattle.th_syntax.specs.declared.machine.InitStage.{InitStage};
 ghost use Rattle.th_syntax.specs.declared.machine.LaunchStage.{LaunchStage};
 ghost use Rattle.th_syntax.specs.declared.machine.Mark.TheVariants.{Done, InProgress, Untouched};
+ghost use Rattle.th_syntax.specs.declared.machine.Object.TheVariants.{Instance};
 ghost use Rattle.th_syntax.specs.declared.machine.Slot.TheVariants.{Holds, SecondHalf};
 ghost use Rattle.th_syntax.specs.declared.machine.Slot.{Slot};
 ghost use Rattle.th_syntax.specs.declared.machine.State.{State};
@@ -72,6 +75,48 @@ pub fn types_decide()
 /// The initialiser of a class runs after that of its superclass.
 pub fn superclass_is_initialised_first()
     ensures { LeadsTo Any writing_program (launch 12 ∷ []) written_last }
+{}
+
+/// The moves of groups of slots, where these are of two values or of a long, above and below.
+pub fn moves_keep_groups_whole()
+    ensures { map (λ one. acts_on one.0 (Stack one.1)) moves_in_forms ≡ map (λ one. gives one.2) moves_in_forms }
+{}
+
+/// A load or a store of an element ends the run on null, on an object that is no array, on an array of other
+/// elements, behind the last element, and before the first.
+pub fn missing_elements_end()
+    ensures loads { map (λ one. acts_on one.0 one.1) missed_loads ≡ map (λ one. Ends) missed_loads }
+    ensures stores { map (λ one. acts_on one.0 one.1) missed_stores ≡ map (λ one. Ends) missed_stores }
+{}
+
+/// An object is to be of a subclass of the class that declares the field or the method, also where a subclass of
+/// this is named. A call of a static method without code ends the run.
+pub fn declaring_classes_count()
+    ensures field { acts_on (at 0 ∷ i 8 ∷ []) (GetField (ref (codes "B") (codes "x") (codes "I"))) ≡ gives (i 5 ∷ i 8 ∷ []) }
+    ensures method { acts_on (at 0 ∷ []) (InvokeVirtual (ref (codes "B") (codes "p") (codes "()V"))) ≡ Calls 19 (at 0 ∷ []) [] }
+    ensures without_code { static_without_code ≡ Ends }
+{}
+
+/// A call by an interface takes the first method from the receiver's class upwards that is neither private nor
+/// static, whichever interface it names. It ends the run where there is none or this one is abstract, where the
+/// class isn't below the interface that declares the method, on an array, and on null.
+pub fn interfaces_are_called()
+    ensures { map (λ one. interface_call one.0 one.1) interface_calls ≡ map (λ one. one.2) interface_calls }
+{}
+
+/// A handler without parameters makes no Bundle, also where an event says a fresh one.
+pub fn bundles_are_made_for_two_handlers()
+    ensures { LeadsTo Any bundle_program (launch 11 ∷ Handler 1 1 true ∷ []) (at_rest (Instance (class_id 11) [] ∷ []) (NullValue ∷ []) (Done ∷ []) 0) }
+{}
+
+/// A launch calls the constructor.
+pub fn constructors_are_called()
+    ensures { LeadsTo Any constructing_program (launch 11 ∷ []) constructed }
+{}
+
+/// In the beginning no static field has its constant.
+pub fn runs_begin_without_constants()
+    ensures { initial constant_program ≡ constants_unset }
 {}
 
 /// All addresses of a state lead to its one object; and one that is past it, in a local, on a stack, in a
