@@ -1,0 +1,9 @@
+pub mod Meeting
+pub mod Names
+pub mod Standing
+pub mod Holding
+pub mod Found
+pub mod Stated
+pub mod Formed
+pub mod Heads
+pub mod WorkedForms

@@ -1,0 +1,9 @@
+pub mod Edges
+pub mod Origins
+pub mod Naming
+pub mod Program
+pub mod Statements
+pub mod RegisterForm
+pub mod Worked
+pub mod WorkedTable
+pub mod WorkedTableForm

@@ -1,0 +1,17 @@
+//! Laws of the register form.
+ghost use Rattle.std.specs.Prelude.{◌≡◌, ◌≢◌, ℕ};
+ghost use Rattle.th_syntax.specs.Flow.{IsReached};
+ghost use Rattle.th_lower.specs.Origins.{FramePlace};
+ghost use Rattle.th_lower.specs.Naming.{Body, Name, Made, Named};
+
+pub mod worked;
+
+/// Before an instruction a place is one register at most.
+pub fn named_once()
+    ensures { (b : Body) (offset : ℕ) (s : FramePlace) (q r : Name) → Named b offset s q → Named b offset s r → q ≡ r }
+{}
+
+/// No place before an instruction that is reached is the register that the instruction makes.
+pub fn never_held()
+    ensures { (b : Body) (offset : ℕ) (s : FramePlace) (r : Name) → IsReached b.code.instrs offset → Named b offset s r → r ≢ Made offset }
+{}
