@@ -7,3 +7,5 @@ pub mod Stated
 pub mod Formed
 pub mod Heads
 pub mod WorkedForms
+pub mod OneStatement
+pub mod OneForm

@@ -4,6 +4,7 @@ pub mod Naming
 pub mod Program
 pub mod Statements
 pub mod RegisterForm
+pub mod Once
 pub mod Worked
 pub mod WorkedTable
 pub mod WorkedTableForm
