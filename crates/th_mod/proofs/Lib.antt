@@ -4,5 +4,6 @@ pub mod Copies
 pub mod Initialisers
 pub mod Least
 pub mod Parts
+pub mod Permuted
 pub mod Transitive
 pub mod Standing

@@ -7,10 +7,13 @@
 //! what summaries mean, and that a method changes nothing else, is said in `th_ir`.
 #![tactic(auto)]
 
+mod adding;
 mod effect;
 mod inclusions;
 pub mod laws;
 mod lists;
+mod places;
+mod routes;
 mod summary;
 
 pub use summary::summaries;

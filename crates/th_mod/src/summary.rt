@@ -1,17 +1,16 @@
 // The summaries of a program.
-ghost use Rattle.std.specs.Prelude.{◌≡◌, ◌+◌, ◌<◌, ◌≤◌, ◌^◌, [], length, slice_set, IfOk, OnOk};
-ghost use Rattle.th_incl.specs.Least.{IsInRange};
+ghost use Rattle.std.specs.Prelude.{◌≡◌, ◌+◌, ◌<◌, ◌≤◌, ◌^◌, [], length, slice_set, IfOk};
 ghost use Rattle.th_ir.specs.FactSets.{sets_of};
 ghost use Rattle.th_ir.specs.Summaries.{LeastMods, sums_of};
-ghost use Rattle.th_mod.specs.Told.{AreTold, NodesHaveMethods, gathered, is_filled, mods_at, system_of};
+ghost use Rattle.th_mod.specs.Told.{NodesHaveMethods, gathered, is_filled, mods_at};
 ghost use Rattle.th_mod.specs.Transitive.{AreTransitive};
 
 use crate::effect::Part;
 use crate::inclusions::{base_pairs, copies_of};
-use crate::lists::{numbers_of, take_set};
+use crate::lists::take_set;
+use crate::routes::{routes_of, told};
 use std::alloc::{AllocError, Global};
 use th_base::{Hierarchy, IdSet, Seq};
-use th_incl::{Constraints, solve};
 use th_ir::{Facts, Mods, RegProgram};
 
 /// For each method what it may write and make, with all that it may call and initialise: the least
@@ -30,21 +29,17 @@ pub fn summaries(
 {
     let classes = hierarchy.classes().len();
     let methods = program.methods.as_slice().len();
+    let sets = classes + methods;
     let copies = copies_of(alloc, program, hierarchy, facts)?;
-    let mut system = Constraints {
-        sets: classes + methods,
-        base: Seq::new(alloc),
-        copies,
-        filters: Seq::new(alloc),
-    };
+    let routes = routes_of(alloc, sets, copies)?;
     let base = base_pairs(alloc, classes, program, Part::Fields)?;
-    let fields = told(alloc, &mut system, base)?;
+    let fields = told(alloc, sets, base, &routes)?;
     let base = base_pairs(alloc, classes, program, Part::Statics)?;
-    let statics = told(alloc, &mut system, base)?;
+    let statics = told(alloc, sets, base, &routes)?;
     let base = base_pairs(alloc, classes, program, Part::Elements)?;
-    let elements = told(alloc, &mut system, base)?;
+    let elements = told(alloc, sets, base, &routes)?;
     let base = base_pairs(alloc, classes, program, Part::Sites)?;
-    let sites = told(alloc, &mut system, base)?;
+    let sites = told(alloc, sets, base, &routes)?;
     let parts = Parts {
         fields,
         statics,
@@ -110,22 +105,4 @@ fn has_some(set: &IdSet) -> bool
     ensures { result ≡ is_filled set.now }
 {
     !set.is_empty()
-}
-
-// The least sets of base pairs under the inclusions of a system, which stay.
-fn told(
-    alloc: Global,
-    system: &mut Constraints,
-    base: Seq<(usize, u32)>,
-) -> Result<Vec<IdSet>, AllocError>
-    requires { IsInRange (system_of system.old.sets base system.old.copies []) }
-    ensures told { IfOk result (λ told. AreTold system.old.sets base system.old.copies told.items) }
-    ensures sets { OnOk result (system.new.sets ≡ system.old.sets) }
-    ensures copies { OnOk result (system.new.copies ≡ system.old.copies) }
-{
-    let mut filters = Seq::new(alloc);
-    filters.push(numbers_of(alloc, base.as_slice())?)?;
-    system.base = base;
-    system.filters = filters;
-    solve(alloc, system)
 }
