@@ -1,5 +1,5 @@
 // From-sets: every site below a bound, and more above it.
-ghost use Rattle.std.specs.Prelude.{◌≡◌, ◌==◌, ◌↔◌, ◌≤◌, IfOk, IsTrue, [], ◌++◌, filter, not};
+ghost use Rattle.std.specs.Prelude.{◌≡◌, ◌==◌, ◌↔◌, ◌≤◌, IfOk, OnOk, OnErr, IsTrue, [], ◌++◌, filter, not};
 ghost use Rattle.std.specs.List.{list_all};
 ghost use Rattle.th_base.specs.IdSet.{has};
 ghost use Rattle.th_query.specs.FromSets.{upto};
@@ -83,6 +83,75 @@ impl Sites {
         let mut one = IdSet::new(alloc);
         one.insert(site)?;
         Ok(Sites::of(one))
+    }
+
+    /// The members of both sets.
+    pub fn common(&self, alloc: Global, other: &Sites) -> Result<Sites, AllocError>
+        ensures { IfOk result (λ common. common ≡ filter (has other.now) self.now) }
+    {
+        // For the proof alone: that the members ascend.
+        let _members = self.more.ids();
+        let _others = other.more.ids();
+        if self.below <= other.below {
+            let more = other.those_in(alloc, &self.more)?;
+            Ok(Sites {
+                below: self.below,
+                more,
+            })
+        } else {
+            let more = self.those_in(alloc, &other.more)?;
+            Ok(Sites {
+                below: other.below,
+                more,
+            })
+        }
+    }
+
+    // The members that are in a set.
+    fn those_in(&self, alloc: Global, set: &IdSet) -> Result<IdSet, AllocError>
+        ensures { IfOk result (λ kept. kept ≡ filter (has self.now) set.now) }
+    {
+        let mut kept = Vec::new(alloc);
+        for site in set.ids() {
+            if self.contains(*site) {
+                kept.push(*site)?;
+            }
+        }
+        Ok(IdSet::from_ascending(kept))
+    }
+
+    /// Keeps the members that are in a set. Takes memory only where the sites below a bound are
+    /// members, and then no more than the set takes.
+    pub fn keep_in(&mut self, alloc: Global, set: &IdSet) -> Result<(), AllocError>
+        ensures ok { OnOk result (self.new ≡ filter (has set.now) self.old) }
+        ensures err { OnErr result (self.new ≡ self.old) }
+    {
+        if self.below == 0 {
+            self.more.keep(|site| set.contains(*site));
+        } else {
+            // For the proof alone: that the members ascend.
+            let _members = self.more.ids();
+            let _others = set.ids();
+            let kept = self.those_in(alloc, set)?;
+            *self = Sites::of(kept);
+        }
+        Ok(())
+    }
+
+    /// The members as a set. Takes memory only where the sites below a bound are members.
+    pub fn into_set(self, alloc: Global) -> Result<IdSet, AllocError>
+        ensures { IfOk result (λ set. set ≡ self) }
+    {
+        let Sites { below, more } = self;
+        if below == 0 {
+            return Ok(more);
+        }
+        let mut ids = Vec::new(alloc);
+        for site in 0..below {
+            ids.push(site)?;
+        }
+        ids.extend_from_slice(more.ids())?;
+        Ok(IdSet::from_ascending(ids))
     }
 
     /// Whether there are no members.
