@@ -1,9 +1,13 @@
 pub mod Beginning
 pub mod Happening
 pub mod Holding
+pub mod Leading
 pub mod Making
 pub mod Opening
+pub mod Reached
+pub mod Reaching
 pub mod Running
+pub mod Script
 pub mod Standing
 pub mod Starting
 pub mod Stepping

@@ -16,12 +16,16 @@ mod happening;
 mod held;
 /// Laws of steps.
 pub mod laws;
+mod leading;
 mod machine;
 mod moving;
 mod objects;
 mod opening;
 mod outcome;
+mod reached;
+mod report;
 mod returning;
+mod script;
 mod slots;
 mod standing;
 mod starting;
@@ -30,3 +34,5 @@ mod writing;
 
 pub use machine::{Answered, Machine};
 pub use outcome::{Outcome, Stepped};
+pub use report::{Report, ScriptFault};
+pub use script::run_script;

@@ -3,16 +3,18 @@ ghost use Rattle.std.specs.Prelude.{◌≡◌, [], false, IfOk};
 ghost use Rattle.th_runs.specs.Verified.{IsVerified};
 ghost use Rattle.th_syntax.specs.Initial.{initial};
 ghost use Rattle.th_syntax.specs.declared.machine.State.{State};
+ghost use Rattle.th_machine.specs.Reached.{AreJoined};
 ghost use Rattle.th_machine.specs.Running.{Answers, HasRun, IsStep, finds_no_room, last_of, rest_of, told_after, told_of};
 
 use crate::beginning::{heap_held, initial};
 use crate::happening::{Came, happen};
 use crate::laws::steps_are_found;
 use crate::outcome::{Outcome, Stepped};
+use crate::reached::joined_pairs;
 use crate::stepping::{Advance, step_state};
 use std::alloc::{AllocError, Global};
 use std::marker::Model;
-use th_base::Lifecycle;
+use th_base::{ClassId, FieldId, Lifecycle};
 use th_resolved::Resolved;
 use th_syntax::{Event, Program, State};
 
@@ -141,6 +143,15 @@ impl<'a> Machine<'a> {
         ensures { result.now ≡ self.now.state }
     {
         &self.state
+    }
+
+    /// The joined pairs of the state, in order of field and class: each static field of reference type that
+    /// leads, through zero or more instance fields and elements, to an object whose class is exactly this one,
+    /// which is `android/app/Activity` or a subclass of it. One walk over the heap for each static field.
+    pub fn reached(&self) -> Result<Vec<(FieldId, ClassId)>, AllocError>
+        ensures { IfOk result (λ pairs. AreJoined self.now.files self.now.state pairs.items) }
+    {
+        joined_pairs(self.alloc, self.resolved.program(), &self.state)
     }
 
     /// One step. Where it finds no room, nothing is changed.
