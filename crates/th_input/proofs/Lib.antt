@@ -3,3 +3,4 @@ pub mod Growing
 pub mod Lines
 pub mod Reading
 pub mod Once
+pub mod OnceScripted

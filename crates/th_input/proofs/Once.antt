@@ -13,7 +13,7 @@ use Rattle.th_input.specs.Listing.{lines_of, names_on, bytes_of, IsFirstBad}
 use Rattle.th_input.specs.Input.{MayHold, IsListed, AreListed, AreNames, total, AreShort, AreHeld, AreRead, IsInputOf, IsInput, IsUnread, missing, failed, too_long, EndsAtList, list_unread, list_bad, EndsAtFile, file_unread, too_many, EndsWithin, EndsAmong, many_names, one_file, Ends, at_list, behind_list, IsFault}
 use Rattle.th_input.proofs.Growing.{all_behind}
 
-same_some : {X : Type 0} (x y : X) (o : Option X) → o ≡ Some x → o ≡ Some y → x ≡ y
+pub same_some : {X : Type 0} (x y : X) (o : Option X) → o ≡ Some x → o ≡ Some y → x ≡ y
 same_some x y o e f = cc
 
 apart : {X : Type 0} (x : X) (o : Option X) → o ≡ Some x → o ≡ None → ⊥
@@ -47,7 +47,7 @@ head_is x y xs ys e = cc
 tail_is : {X : Type 0} (x y : X) (xs ys : List X) → x ∷ xs ≡ y ∷ ys → xs ≡ ys
 tail_is x y xs ys e = cc
 
-same_read : (files p q : List NamedFile) → AreHeld (Some files) p → AreHeld (Some files) q → map (λ f. f.0) p ≡ map (λ f. f.0) q → p ≡ q
+pub same_read : (files p q : List NamedFile) → AreHeld (Some files) p → AreHeld (Some files) q → map (λ f. f.0) p ≡ map (λ f. f.0) q → p ≡ q
 same_read files [] [] hp hq e = refl
 same_read files [] (g ∷ q) hp hq e = absurd cc
 same_read files (f ∷ p) [] hp hq e = absurd cc
@@ -103,7 +103,7 @@ goes_on_ends_nothing files p q name unread on short ends = read_ends_nothing fil
 
 -- ---- one end at one file
 
-same_unread : (files : List NamedFile) (name : List ℕ) (unread other : Unread) → IsUnread (Some files) name unread → IsUnread (Some files) name other → (IsFault unread → ⊥) → (IsFault other → ⊥) → unread ≡ other
+pub same_unread : (files : List NamedFile) (name : List ℕ) (unread other : Unread) → IsUnread (Some files) name unread → IsUnread (Some files) name other → (IsFault unread → ⊥) → (IsFault other → ⊥) → unread ≡ other
 same_unread files name unread other (failed e) b ok fine = absurd (ok (fault_of unread name e))
 same_unread files name unread other a (failed f) ok fine = absurd (fine (fault_of other name f))
 same_unread files name unread other (missing lacks e) (missing none f) ok fine = e ∙ sym f
@@ -112,7 +112,7 @@ same_unread files name unread other (too_long bytes held long e) (missing lacks 
 same_unread files name unread other (too_long bytes held long e) (too_long others too longer f) ok fine = e ∙ sym f
 
 -- a file that is read may end the reading with others, and not by itself
-whole_or_unread : (files : List NamedFile) (name bytes : List ℕ) (unread : Unread) → content files name ≡ Some bytes → length bytes ≤ MOST_FILE_BYTES → IsUnread (Some files) name unread → IsFault unread
+pub whole_or_unread : (files : List NamedFile) (name bytes : List ℕ) (unread : Unread) → content files name ≡ Some bytes → length bytes ≤ MOST_FILE_BYTES → IsUnread (Some files) name unread → IsFault unread
 whole_or_unread files name bytes unread held fits (missing lacks e) = absurd (apart bytes (content files name) held lacks)
 whole_or_unread files name bytes unread held fits (failed e) = fault_of unread name e
 whole_or_unread files name bytes unread held fits (too_long others other long e) =
@@ -134,7 +134,7 @@ same_front files (f ∷ p) (g ∷ q) name other behind rest hp hq e same =
     let on = same_front files p q name other behind rest hp.1 hq.1 (tail_is f.0 g.0 _ _ e) (omega arith) in
     (ap₂ (λ (x : NamedFile) (xs : List NamedFile). x ∷ xs) (same_file files f g (head_is f.0 g.0 _ _ e) hp.0 hq.0) on.0, on.1)
 
-ends_once : (files p q : List NamedFile) (name other : List ℕ) (behind rest : List (List ℕ)) (unread end : Unread) → AreHeld (Some files) p → AreHeld (Some files) q → AreShort p → AreShort q
+pub ends_once : (files p q : List NamedFile) (name other : List ℕ) (behind rest : List (List ℕ)) (unread end : Unread) → AreHeld (Some files) p → AreHeld (Some files) q → AreShort p → AreShort q
     → map (λ f. f.0) p ++ name ∷ behind ≡ map (λ f. f.0) q ++ other ∷ rest → EndsAtFile (Some files) p name unread → EndsAtFile (Some files) q other end → (IsFault unread → ⊥) → (IsFault end → ⊥)
     → (length p ≡ length q) ⊎ ((length p < length q) ⊎ (length q < length p)) → unread ≡ end
 ends_once files p q name other behind rest unread end hp hq sp sq e a b ok fine (inr (inl less)) =
@@ -196,7 +196,7 @@ pub one : (files : List NamedFile) (list : Option (List ℕ)) (operands : List (
 one files list operands read other a b =
     same_read files read other a.input.read.held b.input.read.held (a.input.read.named ∙ same_names files list operands a.names b.names a.are_names b.are_names ∙ sym b.input.read.named)
 
-within_read : (files : List NamedFile) (names : List (List ℕ)) (read : List NamedFile) (unread : Unread) → AreRead (Some files) names read → EndsWithin (Some files) names unread → IsFault unread
+pub within_read : (files : List NamedFile) (names : List (List ℕ)) (read : List NamedFile) (unread : Unread) → AreRead (Some files) names read → EndsWithin (Some files) names unread → IsFault unread
 within_read files names read unread are ends =
     let e : map (λ (f : NamedFile). f.0) ends.before ++ ends.name ∷ ends.behind ≡ map (λ (f : NamedFile). f.0) read ++ [] = sym ends.names_are ∙ sym are.named ∙ sym (append-nil _) in
     let less : length ends.before < length read =

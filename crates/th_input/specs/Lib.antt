@@ -1,3 +1,4 @@
 pub mod Fetching
 pub mod Listing
 pub mod Input
+pub mod Scripted

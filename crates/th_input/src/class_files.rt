@@ -22,7 +22,11 @@ fn short(name: Name, bytes: Vec<u8>) -> Result<Text, Fail<Unread>>
 }
 
 // Reads a file that may not be too long.
-fn fetch<F: Files>(alloc: Global, files: &mut F, name: &str) -> Result<Text, Fail<Unread>>
+pub(crate) fn fetch<F: Files>(
+    alloc: Global,
+    files: &mut F,
+    name: &str,
+) -> Result<Text, Fail<Unread>>
     requires { F.faults files.old < 2 ^ 64 - 1 }
     ensures held { IfOk result (MayHold (F.told files.old) name.now) }
     ensures short { IfOk result (λ bytes. length bytes ≤ MOST_FILE_BYTES) }
@@ -43,7 +47,7 @@ fn fetch<F: Files>(alloc: Global, files: &mut F, name: &str) -> Result<Text, Fai
 }
 
 // Reads class files, in order, that may not be too long together.
-fn fetch_all<F: Files>(
+pub(crate) fn fetch_all<F: Files>(
     alloc: Global,
     files: &mut F,
     names: &[&str],
@@ -70,7 +74,7 @@ fn fetch_all<F: Files>(
 }
 
 // The operands, and behind them the names that are listed.
-fn all_names<'a>(
+pub(crate) fn all_names<'a>(
     alloc: Global,
     operands: &'a [Name],
     listed: &[&'a str],

@@ -7,6 +7,9 @@
 //! `one_input` a store that tells what it holds has one input, so each answer comes exactly where its
 //! definition says.
 //!
+//! `read_scripted` does the same where a command names a script: it reads the script, and then the class
+//! files (`specs/Scripted.antt`, law `one_scripted_input`).
+//!
 //! What the lines of a list name stands in `specs/Listing.antt`, what is read of one file in
 //! `specs/Fetching.antt`.
 #![tactic(auto)]
@@ -16,9 +19,11 @@ mod fetching;
 pub mod laws;
 mod limit;
 mod listing;
+mod scripted;
 mod unread;
 
 pub use class_files::read_class_files;
 pub use fetching::{FetchFault, read_file};
 pub use limit::{MOST_BYTES, MOST_CLASS_FILES, MOST_FILE_BYTES};
+pub use scripted::{Scripted, read_scripted};
 pub use unread::Unread;

@@ -37,6 +37,8 @@ mod resolved_code;
 #[cfg(test)]
 mod runs;
 #[cfg(test)]
+mod script_runs;
+#[cfg(test)]
 mod scripts;
 #[cfg(test)]
 mod tests;

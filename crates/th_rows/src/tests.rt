@@ -150,11 +150,8 @@ fn words_that_are_no_command(rt: HostRuntime) -> Result<(), Fail> {
         (&[], b"usage: no command\n"),
         (&["gen", "20"], b"usage: unknown command\n"),
         (&["--help"], b"usage: unknown command\n"),
-        (&["run"], b"usage: unknown command\n"),
-        (
-            &["run", "--script", "s", "Act.class"],
-            b"usage: unknown command\n",
-        ),
+        (&["run"], b"usage: bad words\n"),
+        (&["run", "Act.class"], b"usage: bad words\n"),
         (&["check"], b"usage: bad words\n"),
         (&["check", ""], b"usage: bad words\n"),
         (&["check", "-x"], b"usage: bad words\n"),

@@ -5,21 +5,20 @@ use Rattle.std.proofs.lemmas.List.{append-nil}
 use Rattle.th_outside.specs.Store.{NamedFile}
 use Rattle.th_outside.specs.Held.{Held}
 use Rattle.th_coarse.specs.Report.{some_survive}
-use Rattle.th_coarse.specs.declared.judged.Judged.{Judged}
 use Rattle.th_words.specs.declared.command.Command.{Command}
 use Rattle.th_words.specs.declared.command.UsageFault.{UsageFault}
-use Rattle.th_top.specs.Answer.{Refuses, no_file, failed_call, FailsToRead, Reports, Stops, IsLine}
-use Rattle.th_top.specs.Asked.{list_in, operands_in}
-use Rattle.th_top.specs.Decided.{Shows, faults_after, IsNamedLast, DecidesNamed, Decides}
-use Rattle.th_top.specs.Outcome.{Outcome, reports, refuses, lacks, fails, Comes, IsOutcome, IsFault, status_of, output_of, line_of}
+use Rattle.th_top.specs.Answer.{Misuses, Refuses, no_file, failed_call, FailsToRead, Writes, Stops, IsLine}
+use Rattle.th_top.specs.Decided.{Shows, faults_after, IsNamedLast, DecidesOne, Decides}
+use Rattle.th_top.specs.Outcome.{Outcome, reports, runs, misuses, refuses, lacks, fails, Comes, IsFault, status_of, output_of, line_of}
+use Rattle.th_top.specs.RunText.{some_joined}
 use Rattle.th_top.specs.Writing.{with_text, AddsPart}
-use Rattle.th_top.specs.declared.decide.Decided.{Decided}
+use Rattle.th_top.specs.declared.shown.Decided.{Decided}
 use Rattle.th_top.specs.declared.status.Status.{Status}
 use Rattle.th_top.specs.declared.status.Status.TheVariants.{NoneSurvive, SomeSurvive, Usage, Refused, ReadFault, WriteFault, NoMemory}
 
 -- ---- the statuses of outcomes
 
--- a status of a report
+-- a status of a report or a run
 abbrev pub IsReported : Status → Type 0
 IsReported NoneSurvive = Unit {0}
 IsReported SomeSurvive = Unit {0}
@@ -37,7 +36,7 @@ report_status false = tt
 abbrev IsOfCommand : Status → Type 0
 IsOfCommand NoneSurvive = Unit {0}
 IsOfCommand SomeSurvive = Unit {0}
-IsOfCommand Usage = ⊥
+IsOfCommand Usage = Unit {0}
 IsOfCommand Refused = Unit {0}
 IsOfCommand ReadFault = Unit {0}
 IsOfCommand WriteFault = ⊥
@@ -46,7 +45,7 @@ IsOfCommand NoMemory = ⊥
 of_report : (status : Status) → IsReported status → IsOfCommand status
 of_report NoneSurvive is = tt
 of_report SomeSurvive is = tt
-of_report Usage is = is
+of_report Usage is = tt
 of_report Refused is = tt
 of_report ReadFault is = tt
 of_report WriteFault is = is
@@ -54,20 +53,31 @@ of_report NoMemory is = is
 
 of_outcome : (o : Outcome) → IsOfCommand (status_of o)
 of_outcome (reports classes report) = of_report (cond (some_survive report) SomeSurvive NoneSurvive) (report_status (some_survive report))
+of_outcome (runs classes came) = of_report (cond (some_joined came) SomeSurvive NoneSurvive) (report_status (some_joined came))
+of_outcome (misuses error) = tt
 of_outcome (refuses refusal) = tt
 of_outcome (lacks name) = tt
 of_outcome (fails name) = tt
 
--- a report has no other status
-not_reported : {A : Type 0} (report : List Judged) (status : Status) → (IsReported status → ⊥) → cond (some_survive report) SomeSurvive NoneSurvive ≡ status → A
-not_reported report status other is = absurd (other (subst IsReported is (report_status (some_survive report))))
+-- a report or a run has no other status
+not_reported : {A : Type 0} (some : Bool) (status : Status) → (IsReported status → ⊥) → cond some SomeSurvive NoneSurvive ≡ status → A
+not_reported some status other is = absurd (other (subst IsReported is (report_status some)))
 
--- ---- the words are no command
+-- ---- the words are no command, or the script has a fault
+
+misused_by : (told : Option (List NamedFile)) (before after : ℕ) (command : Command) (o : Outcome) → Comes told command o → after ≡ faults_after before o → status_of o ≡ Usage
+    → Misuses told before after command
+misused_by told before after command (reports classes report) comes counted is = not_reported (some_survive report) Usage (λ h. h) is
+misused_by told before after command (runs classes came) comes counted is = not_reported (some_joined came) Usage (λ h. h) is
+misused_by told before after command (misuses error) comes counted is = (error, record { comes = comes; no_fault = counted })
+misused_by told before after command (refuses refusal) comes counted is = absurd (let h : ⊥ = cc is in h)
+misused_by told before after command (lacks name) comes counted is = absurd (let h : ⊥ = cc is in h)
+misused_by told before after command (fails name) comes counted is = absurd (let h : ⊥ = cc is in h)
 
 pub usage_is : (asked : Result Command UsageFault) (told : Option (List NamedFile)) (before after : ℕ) (failed : Option (List ℕ)) (d : Decided)
-    → Decides asked told before after failed d → d.status ≡ Usage → IsErr asked
-usage_is (Err fault) told before after failed d decides is = refl
-usage_is (Ok command) told before after failed d decides is = absurd (subst IsOfCommand (sym decides.shows.status_is ∙ is) (of_outcome decides.outcome))
+    → Decides asked told before after failed d → d.status ≡ Usage → IfOk asked (Misuses told before after)
+usage_is (Err fault) told before after failed d decides is = tt
+usage_is (Ok command) told before after failed d decides is = misused_by told before after command decides.outcome decides.is_one decides.counted (sym decides.shows.status_is ∙ is)
 
 pub usage_comes : (asked : Result Command UsageFault) (told : Option (List NamedFile)) (before after : ℕ) (failed : Option (List ℕ)) (d : Decided)
     → Decides asked told before after failed d → IsErr asked → (d.status ≡ Usage) × (d.text ≡ [])
@@ -83,7 +93,9 @@ never_written (Ok command) told before after failed d decides is = subst IsOfCom
 
 refused_by : (told : Option (List NamedFile)) (before after : ℕ) (command : Command) (o : Outcome) → Comes told command o → after ≡ faults_after before o → status_of o ≡ Refused
     → Refuses told before after command
-refused_by told before after command (reports classes report) comes counted is = not_reported report Refused (λ h. h) is
+refused_by told before after command (reports classes report) comes counted is = not_reported (some_survive report) Refused (λ h. h) is
+refused_by told before after command (runs classes came) comes counted is = not_reported (some_joined came) Refused (λ h. h) is
+refused_by told before after command (misuses error) comes counted is = absurd (let h : ⊥ = cc is in h)
 refused_by told before after command (refuses refusal) comes counted is = (refusal, record { comes = comes; no_fault = counted })
 refused_by told before after command (lacks name) comes counted is = absurd (let h : ⊥ = cc is in h)
 refused_by told before after command (fails name) comes counted is = absurd (let h : ⊥ = cc is in h)
@@ -91,13 +103,15 @@ refused_by told before after command (fails name) comes counted is = absurd (let
 pub refused_is : (asked : Result Command UsageFault) (told : Option (List NamedFile)) (before after : ℕ) (failed : Option (List ℕ)) (d : Decided)
     → Decides asked told before after failed d → d.status ≡ Refused → IfOk asked (Refuses told before after)
 refused_is (Err fault) told before after failed d decides is = tt
-refused_is (Ok command) told before after failed d decides is = refused_by told before after command decides.outcome decides.comes decides.counted (sym decides.shows.status_is ∙ is)
+refused_is (Ok command) told before after failed d decides is = refused_by told before after command decides.outcome decides.is_one decides.counted (sym decides.shows.status_is ∙ is)
 
 -- ---- a file isn't read
 
 fault_by : (told : Option (List NamedFile)) (before after : ℕ) (failed : Option (List ℕ)) (command : Command) (o : Outcome) → Comes told command o → after ≡ faults_after before o
     → IsNamedLast failed o → status_of o ≡ ReadFault → FailsToRead told before after failed command
-fault_by told before after failed command (reports classes report) comes counted named is = not_reported report ReadFault (λ h. h) is
+fault_by told before after failed command (reports classes report) comes counted named is = not_reported (some_survive report) ReadFault (λ h. h) is
+fault_by told before after failed command (runs classes came) comes counted named is = not_reported (some_joined came) ReadFault (λ h. h) is
+fault_by told before after failed command (misuses error) comes counted named is = absurd (let h : ⊥ = cc is in h)
 fault_by told before after failed command (refuses refusal) comes counted named is = absurd (let h : ⊥ = cc is in h)
 fault_by told before after failed command (lacks name) comes counted named is = (name, no_file comes counted)
 fault_by told before after failed command (fails name) comes counted named is = (name, failed_call comes counted named)
@@ -106,11 +120,13 @@ pub fault_is : (asked : Result Command UsageFault) (told : Option (List NamedFil
     → Decides asked told before after failed d → d.status ≡ ReadFault → IfOk asked (FailsToRead told before after failed)
 fault_is (Err fault) told before after failed d decides is = tt
 fault_is (Ok command) told before after failed d decides is =
-    fault_by told before after failed command decides.outcome decides.comes decides.counted decides.named (sym decides.shows.status_is ∙ is)
+    fault_by told before after failed command decides.outcome decides.is_one decides.counted decides.named (sym decides.shows.status_is ∙ is)
 
 -- an outcome with more faults is a fault, and nothing is written of it
 more_faults : (o : Outcome) (before after : ℕ) → after ≡ faults_after before o → before < after → (status_of o ≡ ReadFault) × (output_of o ≡ [])
 more_faults (reports classes report) before after counted more = absurd (let h : ⊥ = omega (arith, counted, more) in h)
+more_faults (runs classes came) before after counted more = absurd (let h : ⊥ = omega (arith, counted, more) in h)
+more_faults (misuses error) before after counted more = absurd (let h : ⊥ = omega (arith, counted, more) in h)
 more_faults (refuses refusal) before after counted more = absurd (let h : ⊥ = omega (arith, counted, more) in h)
 more_faults (lacks name) before after counted more = (refl, refl)
 more_faults (fails name) before after counted more = (refl, refl)
@@ -122,39 +138,49 @@ fault_comes (Ok command) told before after failed d decides more =
     let is = more_faults decides.outcome before after decides.counted more in
     (decides.shows.status_is ∙ is.0, decides.shows.text_is ∙ is.1)
 
--- ---- the report
+-- ---- the output
 
-reports_by : (status : Status) (told : Option (List NamedFile)) (before after : ℕ) (old new : Option Held) (command : Command) (o : Outcome) → IsReported status → Comes told command o
-    → after ≡ faults_after before o → status_of o ≡ status → new ≡ with_text old (output_of o) → Reports status told before after old new command
-reports_by status told before after old new command (reports classes report) reported comes counted is written =
-    record { classes = classes; report = report; comes = comes; status_is = is; no_fault = counted; written = written }
-reports_by status told before after old new command (refuses refusal) reported comes counted is written = absurd (subst IsReported (sym is) reported)
-reports_by status told before after old new command (lacks name) reported comes counted is written = absurd (subst IsReported (sym is) reported)
-reports_by status told before after old new command (fails name) reported comes counted is written = absurd (subst IsReported (sym is) reported)
+-- an outcome of a status that a report or a run has raises no count
+reported_count : (o : Outcome) (before after : ℕ) → IsReported (status_of o) → after ≡ faults_after before o → after ≡ before
+reported_count (reports classes report) before after reported counted = counted
+reported_count (runs classes came) before after reported counted = counted
+reported_count (misuses error) before after reported counted = counted
+reported_count (refuses refusal) before after reported counted = counted
+reported_count (lacks name) before after reported counted = counted
+reported_count (fails name) before after reported counted = absurd reported
 
-pub reports_is : (status : Status) (asked : Result Command UsageFault) (told : Option (List NamedFile)) (before after : ℕ) (failed : Option (List ℕ)) (d : Decided) (old new : Option Held)
-    → IsReported status → Decides asked told before after failed d → d.status ≡ status → new ≡ with_text old d.text → IfOk asked (Reports status told before after old new)
-reports_is status (Err fault) told before after failed d old new reported decides is written = tt
-reports_is status (Ok command) told before after failed d old new reported decides is written =
-    reports_by status told before after old new command decides.outcome reported decides.comes decides.counted (sym decides.shows.status_is ∙ is)
-    (written ∙ ap (with_text old) decides.shows.text_is)
+pub writes_is : (status : Status) (asked : Result Command UsageFault) (told : Option (List NamedFile)) (before after : ℕ) (failed : Option (List ℕ)) (d : Decided) (old new : Option Held)
+    → IsReported status → Decides asked told before after failed d → d.status ≡ status → new ≡ with_text old d.text → IfOk asked (Writes status told before after old new)
+writes_is status (Err fault) told before after failed d old new reported decides is written = tt
+writes_is status (Ok command) told before after failed d old new reported decides is written =
+    let same : status_of decides.outcome ≡ status = sym decides.shows.status_is ∙ is in
+    record {
+      outcome = decides.outcome;
+      comes = decides.is_one;
+      status_is = same;
+      no_fault = reported_count decides.outcome before after (subst IsReported (sym same) reported) decides.counted;
+      written = written ∙ ap (with_text old) decides.shows.text_is;
+    }
 
 -- nothing more is written of an empty text
 pub nothing_more : {A : Type 0} (text : List ℕ) (n : ℕ) → n < length text → text ≡ [] → A
 nothing_more text n more nothing = absurd (let none : length text ≡ 0 = ap length nothing in let h : ⊥ = omega (arith, none, more) in h)
 
-stops_by : (told : Option (List NamedFile)) (before after : ℕ) (old new : Option Held) (command : Command) (o : Outcome) → Comes told command o → after ≡ faults_after before o
-    → AddsPart old (output_of o) new → Stops told before after old new command
-stops_by told before after old new command (reports classes report) comes counted part = record { classes = classes; report = report; comes = comes; no_fault = counted; part = part }
-stops_by told before after old new command (refuses refusal) comes counted part = nothing_more [] part.0 part.1 refl
-stops_by told before after old new command (lacks name) comes counted part = nothing_more [] part.0 part.1 refl
-stops_by told before after old new command (fails name) comes counted part = nothing_more [] part.0 part.1 refl
+-- nor does an outcome of which something is written
+written_count : (o : Outcome) (before after : ℕ) (old new : Option Held) → AddsPart old (output_of o) new → after ≡ faults_after before o → after ≡ before
+written_count (reports classes report) before after old new part counted = counted
+written_count (runs classes came) before after old new part counted = counted
+written_count (misuses error) before after old new part counted = counted
+written_count (refuses refusal) before after old new part counted = counted
+written_count (lacks name) before after old new part counted = counted
+written_count (fails name) before after old new part counted = nothing_more [] part.0 part.1 refl
 
 pub stops_is : (asked : Result Command UsageFault) (told : Option (List NamedFile)) (before after : ℕ) (failed : Option (List ℕ)) (d : Decided) (old new : Option Held)
     → Decides asked told before after failed d → AddsPart old d.text new → IfOk asked (Stops told before after old new)
 stops_is (Err fault) told before after failed d old new decides part = tt
 stops_is (Ok command) told before after failed d old new decides part =
-    stops_by told before after old new command decides.outcome decides.comes decides.counted (subst (λ (text : List ℕ). AddsPart old text new) decides.shows.text_is part)
+    let adds = subst (λ (text : List ℕ). AddsPart old text new) decides.shows.text_is part in
+    record { outcome = decides.outcome; comes = decides.is_one; no_fault = written_count decides.outcome before after old new adds decides.counted; part = adds }
 
 neither : (some : Bool) → cond some SomeSurvive NoneSurvive ≢ NoneSurvive → cond some SomeSurvive NoneSurvive ≢ SomeSurvive → ⊥
 neither true not_none not_some = not_some refl
@@ -163,6 +189,8 @@ neither false not_none not_some = not_none refl
 -- under every other status nothing is written
 other_output : (o : Outcome) → status_of o ≢ NoneSurvive → status_of o ≢ SomeSurvive → output_of o ≡ []
 other_output (reports classes report) not_none not_some = absurd (neither (some_survive report) not_none not_some)
+other_output (runs classes came) not_none not_some = absurd (neither (some_joined came) not_none not_some)
+other_output (misuses error) not_none not_some = refl
 other_output (refuses refusal) not_none not_some = refl
 other_output (lacks name) not_none not_some = refl
 other_output (fails name) not_none not_some = refl
@@ -191,6 +219,8 @@ report_line (Err fault) told before after failed line false is = is
 line_by : (told : Option (List NamedFile)) (before after : ℕ) (failed : Option (List ℕ)) (command : Command) (o : Outcome) (line : List ℕ) → Comes told command o
     → after ≡ faults_after before o → IsNamedLast failed o → line ≡ line_of o → IsLine (status_of o) (Ok command) told before after failed line
 line_by told before after failed command (reports classes report) line comes counted named is = report_line (Ok command) told before after failed line (some_survive report) is
+line_by told before after failed command (runs classes came) line comes counted named is = report_line (Ok command) told before after failed line (some_joined came) is
+line_by told before after failed command (misuses error) line comes counted named is = (error, record { comes = comes; no_fault = counted }, is)
 line_by told before after failed command (refuses refusal) line comes counted named is = (refusal, record { comes = comes; no_fault = counted }, is)
 line_by told before after failed command (lacks name) line comes counted named is = (name, no_file comes counted, is)
 line_by told before after failed command (fails name) line comes counted named is = (name, failed_call comes counted named, is)
@@ -201,25 +231,44 @@ line_is (Err fault) told before after failed d decides =
     subst (λ (s : Status). IsLine s (Err fault) told before after failed d.line) (sym decides.status_is) decides.line_is
 line_is (Ok command) told before after failed d decides =
     subst (λ (s : Status). IsLine s (Ok command) told before after failed d.line) (sym decides.shows.status_is)
-    (line_by told before after failed command decides.outcome d.line decides.comes decides.counted decides.named decides.shows.line_is)
+    (line_by told before after failed command decides.outcome d.line decides.is_one decides.counted decides.named decides.shows.line_is)
 
 -- ---- a store that tells
 
 abbrev OneOutcome : Type 0
-OneOutcome = (store : List NamedFile) (list : Option (List ℕ)) (operands : List (List ℕ)) (outcome other : Outcome) → IsOutcome (Some store) list operands outcome
-    → IsOutcome (Some store) list operands other → (IsFault outcome → ⊥) → (IsFault other → ⊥) → outcome ≡ other
+OneOutcome = (store : List NamedFile) (command : Command) (outcome other : Outcome) → Comes (Some store) command outcome
+    → Comes (Some store) command other → (IsFault outcome → ⊥) → (IsFault other → ⊥) → outcome ≡ other
 
 decided_of : (asked : Result Command UsageFault) (told : Option (List NamedFile)) (before after : ℕ) (failed : Option (List ℕ)) (d : Decided) (command : Command) (store : List NamedFile)
-    → Decides asked told before after failed d → asked ≡ Ok command → told ≡ Some store → DecidesNamed (Some store) (list_in command) (operands_in command) before after failed d
+    → Decides asked told before after failed d → asked ≡ Ok command → told ≡ Some store → DecidesOne (Comes (Some store) command) before after failed d
 decided_of asked told before after failed d command store decides is tells =
     subst (λ (t : Option (List NamedFile)). Decides (Ok command) t before after failed d) tells
     (subst (λ (a : Result Command UsageFault). Decides a told before after failed d) is decides)
 
-no_fault_in : (o : Outcome) (before after : ℕ) → after ≡ faults_after before o → after ≡ before → IsFault o → ⊥
-no_fault_in (reports classes report) before after counted same fault = fault
-no_fault_in (refuses refusal) before after counted same fault = fault
-no_fault_in (lacks name) before after counted same fault = fault
-no_fault_in (fails name) before after counted same fault = omega (arith, counted, same)
+-- whether an outcome is a fault
+faulty : (x : Outcome) → (IsFault x) ⊎ (IsFault x → ⊥)
+faulty (reports classes report) = inr (λ h. h)
+faulty (runs classes came) = inr (λ h. h)
+faulty (misuses error) = inr (λ h. h)
+faulty (refuses refusal) = inr (λ h. h)
+faulty (lacks name) = inr (λ h. h)
+faulty (fails name) = inl tt
+
+fault_shows : (x : Outcome) → IsFault x → (status_of x ≡ ReadFault) × (output_of x ≡ [])
+fault_shows (reports classes report) fault = absurd fault
+fault_shows (runs classes came) fault = absurd fault
+fault_shows (misuses error) fault = absurd fault
+fault_shows (refuses refusal) fault = absurd fault
+fault_shows (lacks name) fault = absurd fault
+fault_shows (fails name) fault = (refl, refl)
+
+fault_counts : (x : Outcome) (before after : ℕ) → IsFault x → after ≡ faults_after before x → after ≡ before → ⊥
+fault_counts (reports classes report) before after fault counted same = fault
+fault_counts (runs classes came) before after fault counted same = fault
+fault_counts (misuses error) before after fault counted same = fault
+fault_counts (refuses refusal) before after fault counted same = fault
+fault_counts (lacks name) before after fault counted same = fault
+fault_counts (fails name) before after fault counted same = omega (arith, counted, same)
 
 -- what is decided shows the outcome that comes, where no call failed
 pub shown : OneOutcome → (asked : Result Command UsageFault) (told : Option (List NamedFile)) (before after : ℕ) (failed : Option (List ℕ)) (d : Decided) (command : Command)
@@ -228,20 +277,7 @@ pub shown : OneOutcome → (asked : Result Command UsageFault) (told : Option (L
 shown law asked told before after failed d command store o decides is tells comes fine same =
     let of = decided_of asked told before after failed d command store decides is tells in
     subst (λ (x : Outcome). Shows x d)
-    (law store (list_in command) (operands_in command) of.outcome o of.comes comes (no_fault_in of.outcome before after of.counted same) fine) of.shows
-
--- whether an outcome is a fault
-faulty : (x : Outcome) → (IsFault x) ⊎ (IsFault x → ⊥)
-faulty (reports classes report) = inr (λ h. h)
-faulty (refuses refusal) = inr (λ h. h)
-faulty (lacks name) = inr (λ h. h)
-faulty (fails name) = inl tt
-
-fault_shows : (x : Outcome) → IsFault x → (status_of x ≡ ReadFault) × (output_of x ≡ [])
-fault_shows (reports classes report) fault = absurd fault
-fault_shows (refuses refusal) fault = absurd fault
-fault_shows (lacks name) fault = absurd fault
-fault_shows (fails name) fault = (refl, refl)
+    (law store command of.outcome o of.is_one comes (λ fault. fault_counts of.outcome before after fault of.counted same) fine) of.shows
 
 -- it shows that outcome, or a fault
 pub shown_or_fault : OneOutcome → (asked : Result Command UsageFault) (told : Option (List NamedFile)) (before after : ℕ) (failed : Option (List ℕ)) (d : Decided) (command : Command)
@@ -251,5 +287,5 @@ shown_or_fault law asked told before after failed d command store o decides is t
     let of = decided_of asked told before after failed d command store decides is tells in
     elim (faulty of.outcome) [
       | inl fault ↦ (let f = fault_shows of.outcome fault in inr (of.shows.status_is ∙ f.0, of.shows.text_is ∙ f.1))
-      | inr none ↦ inl (subst (λ (x : Outcome). Shows x d) (law store (list_in command) (operands_in command) of.outcome o of.comes comes none fine) of.shows)
+      | inr none ↦ inl (subst (λ (x : Outcome). Shows x d) (law store command of.outcome o of.is_one comes none fine) of.shows)
     ]

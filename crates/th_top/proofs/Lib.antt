@@ -1,6 +1,7 @@
 pub mod Sent
-pub mod Standing
 pub mod Once
 pub mod Verifying
 pub mod Deciding
+pub mod Scripts
 pub mod Answering
+pub mod Beginning

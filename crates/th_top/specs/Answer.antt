@@ -8,24 +8,29 @@ use Rattle.th_syntax.specs.declared.refusal.Refusal.{Refusal}
 use Rattle.th_coarse.specs.Report.{survivors, text_of}
 use Rattle.th_coarse.specs.Safety.{AreAllJoined}
 use Rattle.th_coarse.specs.declared.judged.Judged.{Judged}
+use Rattle.th_harness.specs.declared.script_error.ScriptError.{ScriptError}
 use Rattle.th_words.specs.declared.command.Command.{Command}
 use Rattle.th_words.specs.declared.command.UsageFault.{UsageFault}
-use Rattle.th_top.specs.Lines.{reason_of, refused_line, read_fault_line}
-use Rattle.th_top.specs.Asked.{list_in, operands_in}
-use Rattle.th_top.specs.Outcome.{reports, refuses, lacks, fails, IsOutcome, Comes, status_of}
+use Rattle.th_top.specs.Lines.{reason_of, script_line, refused_line, read_fault_line}
+use Rattle.th_top.specs.Outcome.{Outcome, misuses, refuses, lacks, fails, Comes, status_of, output_of}
 use Rattle.th_top.specs.Writing.{with_text, AddsPart}
 use Rattle.th_top.specs.declared.status.Status.{Status}
 use Rattle.th_top.specs.declared.status.Status.TheVariants.{Usage, Refused, ReadFault, WriteFault, NoMemory}
 
 -- ---- what a status says
 
--- no call of the store failed, and the files are refused
-pub record IsRefusedFor (told : Option (List NamedFile)) (before after : ℕ) (command : Command) (refusal : Refusal) : Type 0 where
-  pub comes : Comes told command (refuses refusal)
+-- no call of the store failed, and this outcome comes
+pub record ComesUnfailed (told : Option (List NamedFile)) (before after : ℕ) (command : Command) (outcome : Outcome) : Type 0 where
+  pub comes : Comes told command outcome
   pub no_fault : after ≡ before
 
+-- no call of the store failed, and the script has a fault
+abbrev pub Misuses : Option (List NamedFile) → ℕ → ℕ → Command → Type 0
+Misuses told before after command = (error : ScriptError) × ComesUnfailed told before after command (misuses error)
+
+-- no call of the store failed, and the files are refused
 abbrev pub Refuses : Option (List NamedFile) → ℕ → ℕ → Command → Type 0
-Refuses told before after command = (refusal : Refusal) × IsRefusedFor told before after command refusal
+Refuses told before after command = (refusal : Refusal) × ComesUnfailed told before after command (refuses refusal)
 
 -- the name of the last call that failed, where it is told, is this one
 abbrev pub IsLast : Option (List ℕ) → List ℕ → Type 0
@@ -41,23 +46,21 @@ pub data ReadFails (told : Option (List NamedFile)) (before after : ℕ) (failed
 abbrev pub FailsToRead : Option (List NamedFile) → ℕ → ℕ → Option (List ℕ) → Command → Type 0
 FailsToRead told before after failed command = (name : List ℕ) × ReadFails told before after failed command name
 
--- no call of the store failed, the program is accepted, and its whole report was written, which gives the status
-pub record Reports (status : Status) (told : Option (List NamedFile)) (before after : ℕ) (old new : Option Held) (command : Command)
+-- no call of the store failed, an outcome of this status comes, and its whole output was written
+pub record Writes (status : Status) (told : Option (List NamedFile)) (before after : ℕ) (old new : Option Held) (command : Command)
     : Type 0 where
-  pub classes : List ClassFile
-  pub report : List Judged
-  pub comes : Comes told command (reports classes report)
-  pub status_is : status_of (reports classes report) ≡ status
+  pub outcome : Outcome
+  pub comes : Comes told command outcome
+  pub status_is : status_of outcome ≡ status
   pub no_fault : after ≡ before
-  pub written : new ≡ with_text old (text_of classes report)
+  pub written : new ≡ with_text old (output_of outcome)
 
--- no call of the store failed, the program is accepted, and a part of its report was written
+-- no call of the store failed, and of the output of the outcome that comes a part was written
 pub record Stops (told : Option (List NamedFile)) (before after : ℕ) (old new : Option Held) (command : Command) : Type 0 where
-  pub classes : List ClassFile
-  pub report : List Judged
-  pub comes : Comes told command (reports classes report)
+  pub outcome : Outcome
+  pub comes : Comes told command outcome
   pub no_fault : after ≡ before
-  pub part : AddsPart old (text_of classes report) new
+  pub part : AddsPart old (output_of outcome) new
 
 -- the report of the program was written, and each static field and Activity class that are joined in a
 -- reachable state of any run under the lifecycle survive in it
@@ -65,20 +68,21 @@ pub record PrintsAllJoined (lifecycle : Lifecycle) (classes : List ClassFile) (r
   pub written : new ≡ with_text old (text_of classes report)
   pub all_joined : AreAllJoined lifecycle classes (survivors report)
 
--- both facts
-pub record Writes (status written : Type 0) : Type 0 where
-  pub status_is : status
-  pub written_is : written
+-- the status and the output are those of an outcome
+pub record ShowsWhole (outcome : Outcome) (status : Status) (old new : Option Held) : Type 0 where
+  pub status_is : status ≡ status_of outcome
+  pub written : new ≡ with_text old (output_of outcome)
 
 -- ---- faults
 
--- where a call of the store failed, and the name of its file is told, the reading of these class files came to that file
-abbrev pub FaultIsOf : Option (List NamedFile) → Option (List ℕ) → List (List ℕ) → ℕ → ℕ → Option (List ℕ) → Type 0
-FaultIsOf told list operands before after None = Unit {0}
-FaultIsOf told list operands before after (Some last) = before < after → IsOutcome told list operands (fails last)
+-- where a call of the store failed, and the name of its file is told, this outcome is that of the call
+abbrev pub FaultIsOf : (Outcome → Type 0) → ℕ → ℕ → Option (List ℕ) → Type 0
+FaultIsOf IsOne before after None = Unit {0}
+FaultIsOf IsOne before after (Some last) = before < after → IsOne (fails last)
 
+-- where a call of the store failed, and the name of its file is told, the reading came to that file
 abbrev pub FaultIsNamed : Option (List NamedFile) → ℕ → ℕ → Option (List ℕ) → Command → Type 0
-FaultIsNamed told before after failed command = FaultIsOf told (list_in command) (operands_in command) before after failed
+FaultIsNamed told before after failed command = FaultIsOf (Comes told command) before after failed
 
 -- a count of faults rises by one at most
 abbrev pub CountsOnce : ℕ → ℕ → Type 0
@@ -91,8 +95,10 @@ abbrev pub IsLine : Status → Result Command UsageFault → Option (List NamedF
 IsLine NoMemory asked told before after failed line = line ≡ codes "no memory\n"
 IsLine WriteFault asked told before after failed line = line ≡ codes "write fault\n"
 IsLine Usage (Err fault) told before after failed line = line ≡ reason_of fault
+IsLine Usage (Ok command) told before after failed line =
+    (error : ScriptError) × ComesUnfailed told before after command (misuses error) × (line ≡ script_line error)
 IsLine Refused (Ok command) told before after failed line =
-    (refusal : Refusal) × IsRefusedFor told before after command refusal × (line ≡ refused_line refusal)
+    (refusal : Refusal) × ComesUnfailed told before after command (refuses refusal) × (line ≡ refused_line refusal)
 IsLine ReadFault (Ok command) told before after failed line =
     (name : List ℕ) × ReadFails told before after failed command name × (line ≡ read_fault_line name)
 IsLine status asked told before after failed line = line ≡ []

@@ -1,4 +1,7 @@
 pub mod Asked
+pub mod RunText
+pub mod Worked
+pub mod Program
 pub mod Outcome
 pub mod Lines
 pub mod Writing

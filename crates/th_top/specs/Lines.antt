@@ -3,6 +3,8 @@ use Rattle.std.specs.Prelude.{ℕ, ◌==◌, List, [], ◌∷◌, ◌++◌, code
 use Rattle.std.specs.Fmt.{decimal}
 use Rattle.th_syntax.specs.declared.cause.TheConstants as cause
 use Rattle.th_syntax.specs.declared.refusal.Refusal.{Refusal}
+use Rattle.th_harness.specs.declared.script_error.ScriptError.{ScriptError}
+use Rattle.th_harness.specs.declared.script_error.ScriptError.TheVariants.{Line, Event}
 use Rattle.th_kinds.specs.declared.inference.TheConstants.{KIND_CONFLICT}
 use Rattle.th_words.specs.declared.command.UsageFault.{UsageFault}
 use Rattle.th_words.specs.declared.command.UsageFault.TheVariants.{NoCommand, UnknownCommand, BadWords}
@@ -11,6 +13,11 @@ abbrev pub reason_of : UsageFault → List ℕ
 reason_of NoCommand = codes "usage: no command\n"
 reason_of UnknownCommand = codes "usage: unknown command\n"
 reason_of BadWords = codes "usage: bad words\n"
+
+-- the line of a fault of a script, by the number of a line or of an event
+abbrev pub script_line : ScriptError → List ℕ
+script_line (Line number) = codes "usage: script line " ++ decimal number ++ codes "\n"
+script_line (Event number) = codes "usage: script event " ++ decimal number ++ codes "\n"
 
 abbrev pub read_fault_line : List ℕ → List ℕ
 read_fault_line name = codes "read fault " ++ name ++ codes "\n"

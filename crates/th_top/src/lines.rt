@@ -1,9 +1,10 @@
 // The lines on the errors.
 ghost use Rattle.std.specs.Prelude.{◌≡◌, IfOk};
-ghost use Rattle.th_top.specs.Lines.{cause_name, program_cause_name, or_hyphen, read_fault_line, reason_of, refused_line};
+ghost use Rattle.th_top.specs.Lines.{cause_name, program_cause_name, or_hyphen, read_fault_line, reason_of, refused_line, script_line};
 
 use std::alloc::{AllocError, Global};
 use th_base::{Name, Text};
+use th_harness::ScriptError;
 use th_kinds::KIND_CONFLICT;
 use th_syntax::{Refusal, cause};
 use th_words::UsageFault;
@@ -18,6 +19,17 @@ pub(crate) fn usage_line(alloc: Global, fault: UsageFault) -> Result<Text, Alloc
         UsageFault::BadWords => b"usage: bad words\n".as_slice(),
     };
     Text::from_slice(alloc, line)
+}
+
+// The line of a fault of a script.
+pub(crate) fn script_line(alloc: Global, error: ScriptError) -> Result<Text, AllocError>
+    ensures { IfOk result (λ line. line ≡ script_line error) }
+{
+    let line = match error {
+        ScriptError::Line(number) => format!(in alloc; "usage: script line {number}\n")?,
+        ScriptError::Event(number) => format!(in alloc; "usage: script event {number}\n")?,
+    };
+    Text::from_vec(line.into_bytes())
 }
 
 // The line of a file that isn't read.

@@ -5,11 +5,12 @@ ghost use Rattle.th_top.specs.Status.{code_of};
 /// How the program ends. The exit codes are 0 to 6, in this order.
 #[derive(Clone, Copy, Debug, PartialEq, Eq)]
 pub enum Status {
-    /// The program was accepted, and no alarm survives.
+    /// The program was accepted, and no alarm survives, or nothing is joined in the last state of its run.
     NoneSurvive,
-    /// The program was accepted, and some alarm survives.
+    /// The program was accepted, and some alarm survives, or a static field and an Activity class are
+    /// joined in the last state of its run.
     SomeSurvive,
-    /// The words are no command.
+    /// The words are no command, or the script has a fault.
     Usage,
     /// All was read, and the program is not accepted.
     Refused,

@@ -1,6 +1,6 @@
 use Rattle.std.proofs.Common.{refl, arith, codes, inl, inr, ap, ◌∙◌}
 use Rattle.th_top.specs.Asked.{lifecycle_in}
-use Rattle.th_top.specs.Outcome.{reports, refuses, lacks}
+use Rattle.th_top.specs.Outcome.{reports, misuses, refuses, lacks}
 use Rattle.th_top.specs.Writing.{with_text}
 use Rattle.th_top.specs.declared.status.Status.TheVariants.{NoneSurvive, SomeSurvive}
 use Rattle.th_top.proofs.Answering as answering
@@ -13,6 +13,10 @@ returns-in-Ok-write_text-clause-usage g c = λ is. answering.usage_is _ _ _ _ _ 
 
 pub returns-in-Ok-write_text-clause-usage_always : goal.returns-in-Ok-write_text-clause-usage_always
 returns-in-Ok-write_text-clause-usage_always g c = λ err. inl (answering.usage_comes _ _ _ _ _ c.in-Ok.decided c.in-Ok.ensures.decides err).0
+
+pub returns-in-Ok-write_text-clause-script_always : goal.returns-in-Ok-write_text-clause-script_always
+returns-in-Ok-write_text-clause-script_always g c = λ command store error is tells comes same.
+    inl (answering.shown c.one_outcome.ensures _ _ _ _ _ c.in-Ok.decided command store (misuses error) c.in-Ok.ensures.decides is tells comes (λ h. h) same).status_is
 
 pub returns-in-Ok-write_text-clause-refused : goal.returns-in-Ok-write_text-clause-refused
 returns-in-Ok-write_text-clause-refused g c = λ is. answering.refused_is _ _ _ _ _ c.in-Ok.decided c.in-Ok.ensures.decides is
@@ -36,23 +40,23 @@ returns-in-Ok-write_text-clause-missing_always g c = λ command store name is te
 
 pub returns-in-Ok-write_text-clause-none : goal.returns-in-Ok-write_text-clause-none
 returns-in-Ok-write_text-clause-none g c = λ is.
-    answering.reports_is NoneSurvive _ _ _ _ _ c.in-Ok.decided _ _ tt c.in-Ok.ensures.decides is (rw (← c.as_bytes.ensures) c.in-Ok-write_text.ensures.whole)
+    answering.writes_is NoneSurvive _ _ _ _ _ c.in-Ok.decided _ _ tt c.in-Ok.ensures.decides is (rw (← c.as_bytes.ensures) c.in-Ok-write_text.ensures.whole)
 
 pub returns-in-Ok-write_text-clause-some : goal.returns-in-Ok-write_text-clause-some
 returns-in-Ok-write_text-clause-some g c = λ is.
-    answering.reports_is SomeSurvive _ _ _ _ _ c.in-Ok.decided _ _ tt c.in-Ok.ensures.decides is (rw (← c.as_bytes.ensures) c.in-Ok-write_text.ensures.whole)
+    answering.writes_is SomeSurvive _ _ _ _ _ c.in-Ok.decided _ _ tt c.in-Ok.ensures.decides is (rw (← c.as_bytes.ensures) c.in-Ok-write_text.ensures.whole)
 
-pub returns-in-Ok-write_text-clause-report_always : goal.returns-in-Ok-write_text-clause-report_always
-returns-in-Ok-write_text-clause-report_always g c = λ command store classes report is tells comes same out_same.
-    let shows = answering.shown c.one_outcome.ensures _ _ _ _ _ c.in-Ok.decided command store (reports classes report) c.in-Ok.ensures.decides is tells comes (λ h. h) same in
-    inl (record { status_is = shows.status_is; written_is = rw (← shows.text_is, ← c.as_bytes.ensures) c.in-Ok-write_text.ensures.whole })
+pub returns-in-Ok-write_text-clause-outcome_always : goal.returns-in-Ok-write_text-clause-outcome_always
+returns-in-Ok-write_text-clause-outcome_always g c = λ command store outcome is tells comes fine same out_same.
+    let shows = answering.shown c.one_outcome.ensures _ _ _ _ _ c.in-Ok.decided command store outcome c.in-Ok.ensures.decides is tells comes fine same in
+    inl (record { status_is = shows.status_is; written = rw (← shows.text_is, ← c.as_bytes.ensures) c.in-Ok-write_text.ensures.whole })
 
 pub returns-in-Ok-write_text-clause-safe : goal.returns-in-Ok-write_text-clause-safe
 returns-in-Ok-write_text-clause-safe g c = λ command store classes report is tells comes same out_same.
     let shows = answering.shown c.one_outcome.ensures _ _ _ _ _ c.in-Ok.decided command store (reports classes report) c.in-Ok.ensures.decides is tells comes (λ h. h) same in
     inl (record {
       written = rw (← shows.text_is, ← c.as_bytes.ensures) c.in-Ok-write_text.ensures.whole;
-      all_joined = c.all_joined_survive.ensures _ _ _ classes report (lifecycle_in command) comes;
+      all_joined = c.all_joined_survive.ensures _ command classes report (lifecycle_in command) comes;
     })
 
 pub returns-in-Ok-write_text-clause-write_fault : goal.returns-in-Ok-write_text-clause-write_fault
@@ -81,6 +85,12 @@ returns-clause-usage_always g c = λ err.
     let part = rw c.as_bytes.ensures at c.in-Err.ensures.part in
     answering.nothing_more c.in-Ok.decided.text part.0 part.1 (answering.usage_comes _ _ _ _ _ c.in-Ok.decided c.in-Ok.ensures.decides err).1
 
+pub returns-clause-script_always : goal.returns-clause-script_always
+returns-clause-script_always g c = λ command store error is tells comes same.
+    let part = rw c.as_bytes.ensures at c.in-Err.ensures.part in
+    answering.nothing_more c.in-Ok.decided.text part.0 part.1
+    (answering.shown c.one_outcome.ensures _ _ _ _ _ c.in-Ok.decided command store (misuses error) c.in-Ok.ensures.decides is tells comes (λ h. h) same).text_is
+
 pub returns-clause-refused_always : goal.returns-clause-refused_always
 returns-clause-refused_always g c = λ command store refusal is tells comes same.
     let part = rw c.as_bytes.ensures at c.in-Err.ensures.part in
@@ -108,9 +118,9 @@ returns-clause-line g c = record { line = codes "write fault\n"; must = refl; ha
 
 -- where there is room no write fails
 pub returns-clause-room : goal.returns-clause-room
-returns-clause-room g c = λ command store classes report is tells comes room.
+returns-clause-room g c = λ command store outcome is tells comes fine room.
     let part = rw c.as_bytes.ensures at c.in-Err.ensures.part in
-    elim (answering.shown_or_fault c.one_outcome.ensures _ _ _ _ _ c.in-Ok.decided command store (reports classes report) c.in-Ok.ensures.decides is tells comes (λ h. h)) [
+    elim (answering.shown_or_fault c.one_outcome.ensures _ _ _ _ _ c.in-Ok.decided command store outcome c.in-Ok.ensures.decides is tells comes fine) [
       | inl shows ↦ absurd (let h : ⊥ = cc (c.in-Err.ensures.room (rw (c.as_bytes.ensures, shows.text_is) room)) in h)
       | inr fault ↦ answering.nothing_more c.in-Ok.decided.text part.0 part.1 fault.1
     ]
