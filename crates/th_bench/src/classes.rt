@@ -13,7 +13,7 @@ const SECOND_STRIDE: u32 = 104_729;
 // How many interfaces stand above the one that is named often.
 const TALL: u32 = 1000;
 
-fn numbered(alloc: Global, letter: char, number: u32) -> Result<Text, AllocError> {
+pub(crate) fn numbered(alloc: Global, letter: char, number: u32) -> Result<Text, AllocError> {
     Text::from_vec(format!(in alloc; "{letter}{number}")?.into_bytes())
 }
 
@@ -34,7 +34,10 @@ fn class_of(
 }
 
 // The hierarchy of these classes, where they have one.
-fn hierarchy_of(alloc: Global, classes: Vec<ClassInfo>) -> Result<Option<Hierarchy>, AllocError> {
+pub(crate) fn hierarchy_of(
+    alloc: Global,
+    classes: Vec<ClassInfo>,
+) -> Result<Option<Hierarchy>, AllocError> {
     if acyclic(alloc, classes.as_slice())? && classes.len() < 0x1_0000_0000 {
         Ok(Some(Hierarchy::new(alloc, classes)?))
     } else {

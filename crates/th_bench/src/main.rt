@@ -6,21 +6,26 @@
 #![tactic(auto)]
 
 mod classes;
+mod facts;
+mod generated;
 mod inclusions;
 mod kinds;
 mod linking;
 mod paths;
+mod programs;
 mod reading;
 mod refutations;
 mod sets;
+mod steps;
 mod stores;
+mod summaries;
 
 use std::alloc::{AllocError, Global};
 use std::rt::Env;
 use std::{env, io};
 
 // The workloads that count.
-const WORKLOADS: [&str; 18] = [
+const WORKLOADS: [&str; 24] = [
     "merges",
     "fields",
     "subclasses",
@@ -39,6 +44,12 @@ const WORKLOADS: [&str; 18] = [
     "back_jumps",
     "paths",
     "cuts",
+    "facts",
+    "initialised",
+    "shared_sites",
+    "own_sites",
+    "generated",
+    "steps",
 ];
 
 // What a workload counted; none where no workload has the name.
@@ -62,6 +73,12 @@ fn counted(alloc: Global, name: &str, size: u32) -> Result<Option<u64>, AllocErr
         "back_jumps" => Ok(Some(kinds::back_jumps(alloc, size)?)),
         "paths" => Ok(Some(paths::paths(alloc, size)?)),
         "cuts" => Ok(Some(paths::cuts(alloc, size)?)),
+        "facts" => Ok(Some(facts::facts(alloc, size)?)),
+        "initialised" => Ok(Some(facts::initialised(alloc, size)?)),
+        "shared_sites" => Ok(Some(summaries::shared_sites(alloc, size)?)),
+        "own_sites" => Ok(Some(summaries::own_sites(alloc, size)?)),
+        "generated" => Ok(Some(generated::generated(alloc, size)?)),
+        "steps" => Ok(Some(steps::steps(alloc, size)?)),
         _ => Ok(None),
     }
 }
