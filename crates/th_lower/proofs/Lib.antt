@@ -14,3 +14,7 @@ pub mod Amongst
 pub mod Known
 pub mod Giving
 pub mod There
+pub mod Apart
+pub mod Texts
+pub mod ListedOnce
+pub mod ReadCode

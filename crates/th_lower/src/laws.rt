@@ -1,12 +1,15 @@
 //! Laws of the register form.
-ghost use Rattle.std.specs.Prelude.{◌≡◌, ◌≢◌, ℕ, true, Some, slice_get};
+ghost use Rattle.std.specs.Prelude.{◌≡◌, ◌≢◌, ℕ, true, List, Some, slice_get};
+ghost use Rattle.std.specs.List.{AllByRecursion};
+ghost use Rattle.th_runs.specs.Verified.{IsRead};
+ghost use Rattle.th_syntax.specs.declared.class_file.ClassFile.{ClassFile};
 ghost use Rattle.th_syntax.specs.declared.kind.SlotKind.{SlotKind};
 ghost use Rattle.th_syntax.specs.Flow.{IsReached};
 ghost use Rattle.th_syntax.specs.KindTable.{AreKinds};
 ghost use Rattle.th_lower.specs.Origins.{FramePlace};
 ghost use Rattle.th_ir.specs.declared.program.RegProgram.{RegProgram};
 ghost use Rattle.th_lower.specs.Naming.{Body, Name, Made, Named, names_of, is_kept_before, kind_before};
-ghost use Rattle.th_lower.specs.Once.{AreListedOnce};
+ghost use Rattle.th_lower.specs.Once.{HaveAscendingCode, AreListedOnce};
 ghost use Rattle.th_lower.specs.Program.{Input};
 ghost use Rattle.th_lower.specs.RegisterForm.{IsRegisterForm, is_ref_kind, names_ref};
 
@@ -22,9 +25,21 @@ pub fn never_held()
     ensures { (b : Body) (offset : ℕ) (s : FramePlace) (r : Name) → IsReached b.code.instrs offset → Named b offset s r → r ≢ Made offset }
 {}
 
-/// A program has one register form at most, where its registers, nodes and sites are told apart.
+/// Where the offsets of the code of each method ascend, no register, node or site is listed twice.
+pub fn listed_once()
+    ensures { (x : Input) → HaveAscendingCode x.files → AreListedOnce x }
+{}
+
+/// The code of class files that were read ascends.
+pub fn read_code_ascends()
+    ensures { (files : List ClassFile) → AllByRecursion IsRead files → HaveAscendingCode files }
+{}
+
+/// A program has one register form at most, where its registers, nodes and sites are told apart: so
+/// wherever its class files were read.
 pub fn one_form()
-    ensures { (x : Input) (p q : RegProgram) → AreListedOnce x → IsRegisterForm x p → IsRegisterForm x q → p ≡ q }
+    ensures listed { (x : Input) (p q : RegProgram) → AreListedOnce x → IsRegisterForm x p → IsRegisterForm x q → p ≡ q }
+    ensures read { (x : Input) (p q : RegProgram) → AllByRecursion IsRead x.files → IsRegisterForm x p → IsRegisterForm x q → p ≡ q }
 {}
 
 /// Each place that has an int or a reference before an instruction that is reached is a register, in a
