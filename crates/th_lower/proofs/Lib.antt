@@ -9,3 +9,12 @@ pub mod Heads
 pub mod WorkedForms
 pub mod OneStatement
 pub mod OneForm
+pub mod Behind
+pub mod Amongst
+pub mod Known
+pub mod Giving
+pub mod There
+pub mod Apart
+pub mod Texts
+pub mod ListedOnce
+pub mod ReadCode
