@@ -9,3 +9,4 @@ pub mod Heads
 pub mod WorkedForms
 pub mod OneStatement
 pub mod OneForm
+pub mod FlowLists

@@ -5,6 +5,7 @@ pub mod Program
 pub mod Statements
 pub mod RegisterForm
 pub mod Once
+pub mod Flows
 pub mod Worked
 pub mod WorkedTable
 pub mod WorkedTableForm

@@ -7,4 +7,5 @@
 //! their forms, both by hand, are worked out. docs/REGISTER-FORM.md tells it in words.
 #![tactic(auto)]
 
+mod flow;
 pub mod laws;
