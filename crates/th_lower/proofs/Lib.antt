@@ -10,3 +10,6 @@ pub mod WorkedForms
 pub mod OneStatement
 pub mod OneForm
 pub mod FlowLists
+pub mod Shapes
+pub mod ShortRows
+pub mod Openings

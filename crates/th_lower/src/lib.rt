@@ -9,3 +9,7 @@
 
 mod flow;
 pub mod laws;
+mod opening;
+mod row;
+mod slots;
+mod source;
