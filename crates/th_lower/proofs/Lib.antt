@@ -13,3 +13,8 @@ pub mod FlowLists
 pub mod Shapes
 pub mod ShortRows
 pub mod Openings
+pub mod Behind
+pub mod Amongst
+pub mod Known
+pub mod Giving
+pub mod There

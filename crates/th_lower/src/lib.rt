@@ -2,9 +2,10 @@
 //! each instruction, the numbers of registers, nodes and sites, and the methods of the harness.
 //!
 //! So far it has definitions and laws. `IsRegisterForm` (`specs/RegisterForm.antt`) says what the form of
-//! linked class files with the kinds of their methods is, under a lifecycle. By law a place is one register
-//! at most before an instruction, and never the register that the instruction makes; small programs and
-//! their forms, both by hand, are worked out. docs/REGISTER-FORM.md tells it in words.
+//! linked class files with the kinds of their methods is, under a lifecycle. By law each place with an int or
+//! a reference before an instruction is one register, of the place's kind, and never the register that the
+//! instruction makes; small programs and their forms, both by hand, are worked out. docs/REGISTER-FORM.md
+//! tells it in words.
 #![tactic(auto)]
 
 mod flow;
