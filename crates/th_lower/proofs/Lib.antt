@@ -9,6 +9,10 @@ pub mod Heads
 pub mod WorkedForms
 pub mod OneStatement
 pub mod OneForm
+pub mod FlowLists
+pub mod Shapes
+pub mod ShortRows
+pub mod Openings
 pub mod Behind
 pub mod Amongst
 pub mod Known

@@ -5,6 +5,9 @@ pub mod Program
 pub mod Statements
 pub mod RegisterForm
 pub mod Once
+pub mod Flows
+pub mod Rows
+pub mod Sources
 pub mod Worked
 pub mod WorkedTable
 pub mod WorkedTableForm

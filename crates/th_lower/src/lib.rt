@@ -8,4 +8,9 @@
 //! by hand, are worked out. docs/REGISTER-FORM.md tells it in words.
 #![tactic(auto)]
 
+mod flow;
 pub mod laws;
+mod opening;
+mod row;
+mod slots;
+mod source;
