@@ -1,0 +1,10 @@
+use Rattle.std.proofs.Common.{◌≡◌, ◌==◌, ◌-◌, drop, map, length}
+use Rattle.std.specs.Prelude.{filter, flat_map}
+use Rattle.th_query.specs.FromSets.{upto}
+use Rattle.th_query.specs.Numbered.{mentioned, followed}
+use Rattle.th_query.specs.Symbols.{is_left}
+use Rattle.th_steps.proofs.ordering.mention_cells.Given as goal
+
+-- what is left is mentioned after
+abbrev pub invariant-loop-cell : goal.invariant-loop-cell
+invariant-loop-cell l = mentioned l.order.items (map (λ c. c.value) (filter (λ c. c.base == l.symbol) (drop l.cell-index l.cells))) ≡ mentioned l.fn.order.items (map (λ c. c.value) (filter (λ c. c.base == l.symbol) l.cells))

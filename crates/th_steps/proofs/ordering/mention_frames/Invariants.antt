@@ -1,0 +1,10 @@
+use Rattle.std.proofs.Common.{◌≡◌, ◌==◌, ◌-◌, drop, map, length}
+use Rattle.std.specs.Prelude.{filter, flat_map}
+use Rattle.th_query.specs.FromSets.{upto}
+use Rattle.th_query.specs.Numbered.{mentioned, followed}
+use Rattle.th_query.specs.Symbols.{is_left}
+use Rattle.th_steps.proofs.ordering.mention_frames.Given as goal
+
+-- what is left is mentioned after
+abbrev pub invariant-loop-frame : goal.invariant-loop-frame
+invariant-loop-frame l = mentioned l.order.items (flat_map (λ f. map (λ x. x.1) f.regs) (drop l.frame-index l.frames)) ≡ mentioned l.fn.order.items (flat_map (λ f. map (λ x. x.1) f.regs) l.frames)
