@@ -1,5 +1,5 @@
 -- Frames within their limit, frame by frame.
-use Rattle.std.proofs.Common.{◌≡◌, ℕ, ◌+◌, ◌-◌, ◌<◌, ◌≤◌, ◌++◌, zero, suc, List, [], ◌∷◌, length, drop, take, get_or, refl, sym, ap, ◌∙◌, arith}
+use Rattle.std.proofs.Common.{◌≡◌, ℕ, ◌+◌, ◌-◌, ◌<◌, ◌≤◌, ◌++◌, List, [], ◌∷◌, length, drop, take, get_or, sym, ap, subst, ◌∙◌}
 use Rattle.std.proofs.lemmas.List.{append_assoc, append-nil, take_all}
 use Rattle.th_query.specs.declared.query.Frame.{Frame}
 use Rattle.th_query.specs.Settled.{cut_frames}
@@ -10,12 +10,17 @@ cut_here : (n : ℕ) (fs : List Frame) (i : ℕ) (f : Frame) → i < length fs �
 cut_here n fs i f h is = ap (cut_frames n) (drop_at fs i f h ∙ ap (λ g. g ∷ drop (i + 1) fs) (sym is))
 
 -- a frame of which nothing goes
-pub uncut_more : (n : ℕ) (fs : List Frame) (i : ℕ) (f : Frame) → i < length fs → f ≡ get_or fs i f → length f.regs ≤ n
+uncut_here : (n : ℕ) (fs : List Frame) (i : ℕ) (f : Frame) → i < length fs → f ≡ get_or fs i f → length f.regs ≤ n
     → cut_frames (n - length f.regs) (drop (i + 1) fs) ≡ drop (i + 1) fs → cut_frames n (drop i fs) ≡ drop i fs
-uncut_more n fs i f h is le e =
+uncut_here n fs i f h is le e =
     let all : take n f.regs ≡ f.regs = take_all n f.regs le in
     let same : drop i fs ≡ f ∷ drop (i + 1) fs = drop_at fs i f h ∙ ap (λ g. g ∷ drop (i + 1) fs) (sym is) in
     cut_here n fs i f h is ∙ (λ j. record { node = f.node; regs = all j } ∷ e j) ∙ sym same
+
+pub uncut_more : (n count : ℕ) (fs : List Frame) (i : ℕ) (f : Frame) → i < length fs → f ≡ get_or fs i f → count ≡ length f.regs → count ≤ n
+    → cut_frames (n - count) (drop (i + 1) fs) ≡ drop (i + 1) fs → cut_frames n (drop i fs) ≡ drop i fs
+uncut_more n count fs i f h is counted le e =
+    uncut_here n fs i f h is (subst (λ k. k ≤ n) counted le) (subst (λ k. cut_frames (n - k) (drop (i + 1) fs) ≡ drop (i + 1) fs) counted e)
 
 pub uncut_end : (n : ℕ) (fs : List Frame) (i : ℕ) → length fs ≤ i → cut_frames n (drop i fs) ≡ drop i fs
 uncut_end n fs i h = ap (cut_frames n) (drop_past fs i h) ∙ sym (drop_past fs i h)

@@ -1,11 +1,12 @@
 -- Symbols that are mentioned one after the other, and how many there are.
-use Rattle.std.proofs.Common.{◌≡◌, ◌⊎◌, inl, inr, ℕ, ◌+◌, ◌-◌, ◌<◌, ◌≤◌, ◌==◌, ◌++◌, zero, suc, ltb, Bool, true, false, cond, List, [], ◌∷◌, length, map, drop, get_or, refl, sym, ap, subst, ◌∙◌, arith}
-use Rattle.std.specs.Prelude.{flat_map, nat_lt}
+use Rattle.std.proofs.Common.{◌≡◌, ℕ, ◌+◌, ◌-◌, ◌<◌, ◌≤◌, ◌==◌, ◌++◌, zero, suc, Bool, true, false, cond, List, [], ◌∷◌, length, map, drop, get_or, refl, sym, ap, ◌∙◌, arith}
+use Rattle.std.specs.Prelude.{flat_map}
 use Rattle.std.specs.List.{list_any, filter}
 use Rattle.std.proofs.lemmas.Bool.{lt-ltb, le-ltb}
 use Rattle.th_query.specs.declared.query.Query.{Query}
 use Rattle.th_query.specs.FromSets.{upto}
-use Rattle.th_query.specs.Numbered.{mentioned, next_of, followed}
+use Rattle.th_query.specs.Numbered.{mentioned, next_of, followed, order_of}
+use Rattle.th_query.specs.Symbols.{register_symbols, static_symbols, is_left}
 use Rattle.th_steps.proofs.Sinking.{drop_at, drop_past}
 
 pub mentioned_append : (order xs ys : List ℕ) → mentioned order (xs ++ ys) ≡ mentioned (mentioned order xs) ys
@@ -96,6 +97,22 @@ follow_stop q n k order all h before = sym (stays q n k order h) ∙ before
 
 pub follow_end : (q : Query) (n k : ℕ) (order all : List ℕ) → n ≤ k → followed q (n - k) k order ≡ all → order ≡ all
 follow_end q n k order all h before = let m : n - k ≡ 0 = omega (arith, h) in sym (ap (λ j. followed q j k order) m) ∙ before
+
+-- its cells, then its elements
+pub next_whole : (q : Query) (s : ℕ) (order middle all : List ℕ) → middle ≡ mentioned order (map (λ c. c.value) (filter (λ c. c.base == s) q.cells)) → all ≡ mentioned middle (map (λ e. e.value) (filter (λ e. e.array == s) q.elems))
+    → all ≡ mentioned order (next_of q s)
+next_whole q s order middle all first second =
+    let cells : List ℕ = map (λ c. c.value) (filter (λ c. c.base == s) q.cells) in
+    let elems : List ℕ = map (λ e. e.value) (filter (λ e. e.array == s) q.elems) in
+    second ∙ ap (λ o. mentioned o elems) first ∙ sym (mentioned_append order cells elems)
+
+-- registers, static fields, what they lead to, and what is left
+pub order_whole : (q : Query) (none registers places found all : List ℕ) → none ≡ [] → registers ≡ mentioned none (register_symbols q) → places ≡ mentioned registers (static_symbols q)
+    → found ≡ followed q (length q.syms) 0 places → all ≡ mentioned found (filter (is_left q) (upto (length q.syms))) → all ≡ order_of q
+order_whole q none registers places found all e a b c d =
+    let first : places ≡ mentioned [] (register_symbols q ++ static_symbols q) =
+    b ∙ ap (λ o. mentioned o (static_symbols q)) (a ∙ ap (λ o. mentioned o (register_symbols q)) e) ∙ sym (mentioned_append [] (register_symbols q) (static_symbols q)) in
+    d ∙ ap (λ o. mentioned o (filter (is_left q) (upto (length q.syms)))) (c ∙ ap (followed q (length q.syms) 0) first)
 
 -- ---- items one by one
 

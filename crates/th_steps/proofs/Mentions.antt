@@ -1,5 +1,6 @@
 -- What parts of a query name, part by part.
-use Rattle.std.proofs.Common.{◌≡◌, ℕ, ◌==◌, ◌++◌, Bool, true, false, List, [], ◌∷◌, map, refl, ap, ◌∙◌}
+use Rattle.std.proofs.Common.{◌≡◌, ℕ, ◌==◌, ◌++◌, Bool, true, false, List, [], ◌∷◌, map, refl, sym, ap, ◌∙◌}
+use Rattle.std.proofs.lemmas.Bool.{or_left}
 use Rattle.std.specs.Prelude.{◌||◌, flat_map}
 use Rattle.std.specs.List.{list_any}
 use Rattle.th_base.specs.IdSet.{has}
@@ -59,4 +60,14 @@ named_by fs ss cs es s =
     let a = frames_name fs s in
     let b = has_by (λ (x : FieldId × ℕ). x.1) ss s in
     let c = links_name cs es s in
-    (λ i. a i || (b i || c i)) ∙ or_three _ _ _
+    (λ i. a i || (b i || c i))
+    ∙ or_three (list_any (λ f. list_any (λ (x : Reg × ℕ). x.1 == s) f.regs) fs) (list_any (λ x. x.1 == s) ss) (list_any (λ (x : Cell). (x.base == s) || (x.value == s)) cs || list_any (λ (x : Element). (x.array == s) || (x.value == s)) es)
+
+-- where a place names it, and where none does
+pub named_first : (fs : List Frame) (ss : List (FieldId × ℕ)) (cs : List Cell) (es : List Element) (s : ℕ) (b : Bool) → b ≡ (list_any (λ f. list_any (λ x. x.1 == s) f.regs) fs || list_any (λ x. x.1 == s) ss)
+    → b ≡ true → b ≡ named_in fs ss cs es s
+named_first fs ss cs es s b e h = h ∙ sym (named_by fs ss cs es s ∙ or_left _ _ (sym e ∙ h))
+
+pub named_second : (fs : List Frame) (ss : List (FieldId × ℕ)) (cs : List Cell) (es : List Element) (s : ℕ) (b d : Bool) → b ≡ (list_any (λ f. list_any (λ x. x.1 == s) f.regs) fs || list_any (λ x. x.1 == s) ss)
+    → b ≡ false → d ≡ (list_any (λ c. (c.base == s) || (c.value == s)) cs || list_any (λ e. (e.array == s) || (e.value == s)) es) → d ≡ named_in fs ss cs es s
+named_second fs ss cs es s b d e h is = is ∙ sym (named_by fs ss cs es s ∙ ap (λ z. z || (list_any (λ (c : Cell). (c.base == s) || (c.value == s)) cs || list_any (λ (x : Element). (x.array == s) || (x.value == s)) es)) (sym e ∙ h))

@@ -1,11 +1,11 @@
 -- Items taken from a list in an order without repeats, and lists of what is there.
-use Rattle.std.proofs.Common.{◌≡◌, ◌⊎◌, inl, inr, ℕ, ◌+◌, ◌<◌, ◌≤◌, ◌==◌, ◌++◌, zero, suc, Bool, true, false, List, [], ◌∷◌, length, map, drop, get_or, Option, None, Some, slice_get, slice_set, refl, sym, ap, subst, ◌∙◌, arith}
+use Rattle.std.proofs.Common.{◌≡◌, ℕ, ◌+◌, ◌<◌, ◌≤◌, ◌==◌, ◌++◌, zero, suc, Bool, true, false, List, [], ◌∷◌, length, map, drop, get_or, Option, None, Some, slice_get, slice_set, refl, sym, ap, subst, ◌∙◌}
 use Rattle.std.specs.Prelude.{◌||◌}
 use Rattle.std.proofs.lemmas.Bool.{both_ways, eq-eqb, or_left}
 use Rattle.std.proofs.lemmas.List.{append_assoc, append-nil}
 use Rattle.th_base.specs.IdSet.{has}
 use Rattle.th_query.specs.Unified.{present}
-use Rattle.th_query.proofs.InLists.{In, has_in}
+use Rattle.th_query.proofs.InLists.{has_in}
 use Rattle.th_query.proofs.Mentioning.{AreOnce}
 use Rattle.th_steps.specs.Once.{IsOnce}
 use Rattle.th_steps.proofs.Sinking.{drop_at, drop_past}
@@ -56,11 +56,12 @@ others_stay xs k x (n ∷ ns) h =
     right_false false b e = e
 
 -- after the item at the next place is taken
-pub taken_one : {X : Type 0} (xs : List X) (c : X) (order : List ℕ) (i : ℕ) (o : Option X) (made next all : List X) → i < length order → IsOnce (drop i order) → o ≡ slice_get xs (get_or order i 0) → next ≡ made ++ present (o ∷ [])
+pub taken_one : {X : Type 0} (xs left : List X) (c : X) (order : List ℕ) (i : ℕ) (o : Option X) (made next all : List X) → i < length order → IsOnce (drop i order) → o ≡ slice_get xs (get_or order i 0) → left ≡ slice_set xs (get_or order i 0) c
+    → next ≡ made ++ present (o ∷ [])
     → made ++ present (map (slice_get xs) (drop i order)) ≡ all
-    → (next ++ present (map (slice_get (slice_set xs (get_or order i 0) c)) (drop (i + 1) order)) ≡ all) × IsOnce (drop (i + 1) order)
-taken_one xs c order i o made next all h once e n before =
+    → (next ++ present (map (slice_get left) (drop (i + 1) order)) ≡ all) × IsOnce (drop (i + 1) order)
+taken_one xs left c order i o made next all h once e gone n before =
     let k = get_or order i 0 in
     let here : IsOnce (k ∷ drop (i + 1) order) = subst IsOnce (drop_at order i 0 h) once in
     let stay = others_stay xs k c (drop (i + 1) order) here.0 in
-    (ap (λ ys. next ++ present ys) stay ∙ present_more (slice_get xs) order i 0 o made next all h e n before, here.1)
+    (ap (λ ls. next ++ present (map (slice_get ls) (drop (i + 1) order))) gone ∙ ap (λ ys. next ++ present ys) stay ∙ present_more (slice_get xs) order i 0 o made next all h e n before, here.1)

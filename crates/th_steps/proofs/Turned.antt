@@ -1,5 +1,5 @@
 -- One item more is turned.
-use Rattle.std.proofs.Common.{◌≡◌, ℕ, ◌+◌, ◌<◌, zero, suc, List, [], ◌∷◌, length, map, take, drop, get_or, slice_set, refl, sym, ap, subst, ◌∙◌, arith}
+use Rattle.std.proofs.Common.{◌≡◌, ℕ, ◌+◌, ◌<◌, zero, suc, List, [], ◌∷◌, length, map, take, drop, get_or, slice_set, sym, ap, ◌∙◌, arith}
 
 pub turned_more : {X : Type 0} (f : X → X) (xs old : List X) (i : ℕ) (x y : X) → i < length xs → length xs ≡ length old → x ≡ get_or xs i x → y ≡ f x → take i xs ≡ map f (take i old) → drop i xs ≡ drop i old
     → (take (i + 1) (slice_set xs i y) ≡ map f (take (i + 1) old)) × (drop (i + 1) (slice_set xs i y) ≡ drop (i + 1) old)

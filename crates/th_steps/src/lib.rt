@@ -10,6 +10,7 @@
 #![tactic(auto)]
 
 mod firsts;
+mod known;
 mod limits;
 mod mentioning;
 mod numbering;
@@ -20,9 +21,10 @@ mod sorting;
 mod turning;
 
 pub use firsts::{Alike, keep_firsts};
+pub use known::are_known;
 pub use limits::{limit, prune};
 pub use numbering::number;
 pub use renaming::rename_facts;
 pub use settling::settle;
-pub use sorting::{Key, sort};
-pub use turning::{Turn, turn_all, turn_each};
+pub use sorting::{Key, sort, sort_seq};
+pub use turning::{Turn, turn_all, turn_each, turn_seq};

@@ -62,11 +62,22 @@ fn named_pairs(
 ) -> Vec<(u32, u32)>
     ensures { result.items ≡ filter (λ d. named_in frames.now statics.now cells.now elems.now d.0 && named_in frames.now statics.now cells.now elems.now d.1) pairs.items }
 {
-    pairs.retain(|pair| {
-        is_named(frames, statics, cells, elems, pair.0)
-            && is_named(frames, statics, cells, elems, pair.1)
-    });
+    pairs.retain(|pair| are_named(frames, statics, cells, elems, *pair));
     pairs
+}
+
+// Whether both symbols of a pair are named.
+fn are_named(
+    frames: &[Frame],
+    statics: &[(FieldId, u32)],
+    cells: &[Cell],
+    elems: &[Element],
+    pair: (u32, u32),
+) -> bool
+    ensures { result ≡ (named_in frames.now statics.now cells.now elems.now pair.0 && named_in frames.now statics.now cells.now elems.now pair.1) }
+{
+    is_named(frames, statics, cells, elems, pair.0)
+        && is_named(frames, statics, cells, elems, pair.1)
 }
 
 // Whether a register, a static field, a cell or an element names the symbol.

@@ -1,18 +1,18 @@
 // The symbols of a query are numbered anew, in the order in which they are first mentioned, and its
 // facts are kept by their keys.
-ghost use Rattle.std.specs.Prelude.{◌≡◌, ◌<◌, ◌^◌, ℕ, true, length, map, slice_get, slice_set, IfOk};
+ghost use Rattle.std.specs.Prelude.{◌≡◌, ◌<◌, ◌^◌, length, map, slice_get, slice_set, IfOk};
 ghost use Rattle.th_query.specs.declared.query.Sym.TheVariants.{Carry};
 ghost use Rattle.th_linear.specs.Gathered.{name_of};
 ghost use Rattle.th_query.specs.Numbered.{numbered, numbered_by, sorted_query};
-ghost use Rattle.th_query.specs.Symbols.{is_named as is_named_of};
 ghost use Rattle.th_query.specs.Unified.{present};
+ghost use Rattle.th_steps.specs.Named.{AreKnown};
 ghost use Rattle.th_steps.specs.Once.{IsOnce};
 
 use crate::mentioning::places;
 use crate::ordering::order;
 use crate::renaming::{push_present, rename_facts};
-use crate::sorting::{Key, sort};
-use crate::turning::{Turn, turn_all, turn_each};
+use crate::sorting::{Key, sort_seq};
+use crate::turning::{Turn, turn_all, turn_seq};
 use std::alloc::{AllocError, Global};
 use th_base::{FieldId, Reg, Seq};
 use th_query::{Cell, Element, Frame, Query, Sym};
@@ -24,7 +24,7 @@ use th_query::{Cell, Element, Frame, Query, Sym};
 #[tactic(auto, using(crate::proofs::Renumbering::few_sorted, crate::proofs::Renumbering::few_numbered, crate::proofs::Renumbering::once_numbered, crate::proofs::Renumbering::whole))]
 pub fn number(alloc: Global, query: Query) -> Result<Query, AllocError>
     requires few { length query.syms < 2 ^ 31 }
-    requires named { (s : ℕ) → is_named_of query s ≡ true → s < length query.syms }
+    requires named { AreKnown query }
     ensures { IfOk result (λ made. made ≡ numbered query) }
 {
     let sorted = sort_query(alloc, query)?;
@@ -91,14 +91,10 @@ fn sort_query(alloc: Global, query: Query) -> Result<Query, AllocError>
         facts,
     } = query;
     let frames = turn_all(alloc, frames.into_vec(), &Sorting)?;
-    let mut statics = statics.into_vec();
-    sort::<(FieldId, u32), ByStatic>(&mut statics);
-    let mut cells = cells.into_vec();
-    sort::<Cell, ByField>(&mut cells);
     Ok(Query {
         frames: Seq::from_vec(frames),
-        statics: Seq::from_vec(statics),
-        cells: Seq::from_vec(cells),
+        statics: sort_seq::<(FieldId, u32), ByStatic>(statics),
+        cells: sort_seq::<Cell, ByField>(cells),
         elems,
         syms,
         diffs,
@@ -116,12 +112,8 @@ impl Turn<Frame> for Sorting {
 
     fn turn(&self, item: Frame) -> Frame {
         let Frame { node, regs } = item;
-        let mut regs = regs.into_vec();
-        sort::<(Reg, u32), ByRegister>(&mut regs);
-        Frame {
-            node,
-            regs: Seq::from_vec(regs),
-        }
+        let regs = sort_seq::<(Reg, u32), ByRegister>(regs);
+        Frame { node, regs }
     }
 }
 
@@ -207,12 +199,8 @@ impl Turn<Frame> for Renaming {
 
     fn turn(&self, item: Frame) -> Frame {
         let Frame { node, regs } = item;
-        let mut regs = regs.into_vec();
-        turn_each::<(Reg, u32), Renaming>(&mut regs, self);
-        Frame {
-            node,
-            regs: Seq::from_vec(regs),
-        }
+        let regs = turn_seq::<(Reg, u32), Renaming>(regs, self);
+        Frame { node, regs }
     }
 }
 
@@ -236,36 +224,39 @@ fn number_by(
         facts,
     } = query;
     let frames = turn_all(alloc, frames.into_vec(), &renaming)?;
-    let mut statics = statics.into_vec();
-    turn_each(&mut statics, &renaming);
-    let mut cells = cells.into_vec();
-    turn_each(&mut cells, &renaming);
-    sort::<Cell, ByBase>(&mut cells);
-    let mut elems = elems.into_vec();
-    turn_each(&mut elems, &renaming);
-    let mut diffs = diffs.into_vec();
-    turn_each(&mut diffs, &renaming);
-    let syms = take_in_order(alloc, order, syms.into_vec())?;
+    let syms = symbols_in_order(alloc, order, syms)?;
     let facts = rename_facts(alloc, renaming.names.as_slice(), facts.as_slice())?;
+    let cells = turn_seq(cells, &renaming);
     Ok(Query {
         frames: Seq::from_vec(frames),
-        statics: Seq::from_vec(statics),
-        cells: Seq::from_vec(cells),
-        elems: Seq::from_vec(elems),
-        syms: Seq::from_vec(syms),
-        diffs: Seq::from_vec(diffs),
+        statics: turn_seq(statics, &renaming),
+        cells: sort_seq::<Cell, ByBase>(cells),
+        elems: turn_seq(elems, &renaming),
+        syms,
+        diffs: turn_seq(diffs, &renaming),
         facts: Seq::from_vec(facts),
     })
 }
 
 // The symbols of these numbers, in this order.
-fn take_in_order(alloc: Global, order: &[u32], mut syms: Vec<Sym>) -> Result<Vec<Sym>, AllocError>
+fn symbols_in_order(alloc: Global, order: &[u32], syms: Seq<Sym>) -> Result<Seq<Sym>, AllocError>
     requires { IsOnce order.now }
-    ensures { IfOk result (λ taken. taken.items ≡ present (map (slice_get syms.items) order.now)) }
+    ensures { IfOk result (λ taken. taken ≡ present (map (slice_get syms) order.now)) }
+{
+    let mut syms = syms.into_vec();
+    let taken = take_in_order(alloc, order, &mut syms)?;
+    Ok(Seq::from_vec(taken))
+}
+
+// Takes the symbols of these numbers, in this order.
+fn take_in_order(alloc: Global, order: &[u32], syms: &mut [Sym]) -> Result<Vec<Sym>, AllocError>
+    requires { IsOnce order.now }
+    ensures { IfOk result (λ taken. taken.items ≡ present (map (slice_get syms.old) order.now)) }
 {
     let mut taken = Vec::new(alloc);
     for symbol in order {
-        push_present(&mut taken, take_symbol(&mut syms, *symbol))?;
+        let sym = take_symbol(syms, *symbol);
+        push_present(&mut taken, sym)?;
     }
     Ok(taken)
 }

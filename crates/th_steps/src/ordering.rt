@@ -13,6 +13,7 @@ use th_linear::Lin;
 use th_query::{Cell, Element, Frame, Query, Sym};
 
 // The symbols of registers by frame, and of static fields; what they lead to; then what is left.
+#[tactic(auto, using(crate::proofs::Mentioned::order_whole))]
 pub(crate) fn order(alloc: Global, query: &Query) -> Result<Vec<u32>, AllocError>
     requires { length query.now.syms < 2 ^ 31 }
     ensures { IfOk result (λ order. order.items ≡ order_of query.now) }
@@ -70,11 +71,13 @@ fn follow(query: &Query, order: &mut Vec<u32>) -> Result<(), AllocError>
 }
 
 // Mentions what a symbol leads to.
+#[tactic(auto, using(crate::proofs::Mentioned::next_whole))]
 fn mention_next(query: &Query, symbol: u32, order: &mut Vec<u32>) -> Result<(), AllocError>
     ensures { OnOk result (order.new.items ≡ mentioned order.old.items (next_of query.now symbol)) }
 {
     mention_cells(query.cells.as_slice(), symbol, order)?;
-    mention_elements(query.elems.as_slice(), symbol, order)
+    mention_elements(query.elems.as_slice(), symbol, order)?;
+    Ok(())
 }
 
 // Mentions the values of the cells of a symbol.

@@ -2,6 +2,7 @@
 ghost use Rattle.std.specs.Prelude.{◌≡◌, map, IfOk};
 
 use std::alloc::{AllocError, Global};
+use th_base::Seq;
 
 /// What an item is turned into, by what the value holds.
 pub trait Turn<T> {
@@ -23,6 +24,15 @@ pub fn turn_each<T: Copy, M: Turn<T>>(items: &mut [T], with: &M)
         let item = items[i];
         items[i] = with.turn(item);
     }
+}
+
+/// Turns each item of a sequence, where it stands. Takes no memory.
+pub fn turn_seq<T: Copy + Drop, M: Turn<T>>(items: Seq<T>, with: &M) -> Seq<T>
+    ensures { result ≡ map (M.turned with.now) items }
+{
+    let mut items = items.into_vec();
+    turn_each(&mut items, with);
+    Seq::from_vec(items)
 }
 
 /// Turns each item into one of a new vector.

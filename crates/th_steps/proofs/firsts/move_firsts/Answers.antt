@@ -1,5 +1,4 @@
-use Rattle.std.proofs.Common.{◌≡◌, ◌≤◌, ◌<◌, ◌-◌, ◌+◌, ◌∙◌, ap, subst, sym, take, drop, get_or, length, arith, false, true, slice_set}
-use Rattle.std.specs.List.{list_any}
+use Rattle.std.proofs.Common.{◌+◌, ◌∙◌, ap, sym, take, drop, arith}
 use Rattle.th_query.specs.Unified.{put_new}
 use Rattle.th_steps.proofs.Sinking.{first_kept, later_goes}
 use Rattle.th_steps.proofs.firsts.move_firsts.Goals as goal

@@ -1,4 +1,4 @@
-use Rattle.std.proofs.Common.{◌≡◌, map}
+use Rattle.std.proofs.Common.{◌≡◌}
 use Rattle.th_query.specs.Numbered.{numbers_by}
 use Rattle.th_steps.proofs.mentioning.places.Given as goal
 

@@ -5,4 +5,4 @@ use Rattle.th_steps.proofs.numbering.take_in_order.Given as goal
 
 -- what is left comes after, and none of it is taken
 abbrev pub invariant-loop-symbol : goal.invariant-loop-symbol
-invariant-loop-symbol l = (l.taken.items ++ present (map (slice_get l.syms.items) (drop l.symbol-index l.order)) ≡ present (map (slice_get l.initial.syms.items) l.order)) × IsOnce (drop l.symbol-index l.order)
+invariant-loop-symbol l = (l.taken.items ++ present (map (slice_get l.syms) (drop l.symbol-index l.order)) ≡ present (map (slice_get l.fn.syms) l.order)) × IsOnce (drop l.symbol-index l.order)

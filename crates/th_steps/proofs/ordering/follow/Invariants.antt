@@ -1,8 +1,5 @@
-use Rattle.std.proofs.Common.{◌≡◌, ◌==◌, ◌-◌, drop, map, length}
-use Rattle.std.specs.Prelude.{filter, flat_map}
-use Rattle.th_query.specs.FromSets.{upto}
-use Rattle.th_query.specs.Numbered.{mentioned, followed}
-use Rattle.th_query.specs.Symbols.{is_left}
+use Rattle.std.proofs.Common.{◌≡◌, ◌-◌, length}
+use Rattle.th_query.specs.Numbered.{followed}
 use Rattle.th_steps.proofs.ordering.follow.Given as goal
 
 -- it goes on from here

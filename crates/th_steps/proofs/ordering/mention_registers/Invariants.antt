@@ -1,8 +1,5 @@
-use Rattle.std.proofs.Common.{◌≡◌, ◌==◌, ◌-◌, drop, map, length}
-use Rattle.std.specs.Prelude.{filter, flat_map}
-use Rattle.th_query.specs.FromSets.{upto}
-use Rattle.th_query.specs.Numbered.{mentioned, followed}
-use Rattle.th_query.specs.Symbols.{is_left}
+use Rattle.std.proofs.Common.{◌≡◌, drop, map}
+use Rattle.th_query.specs.Numbered.{mentioned}
 use Rattle.th_steps.proofs.ordering.mention_registers.Given as goal
 
 -- what is left is mentioned after
