@@ -1,0 +1,10 @@
+pub mod Sinking
+pub mod Turned
+pub mod Mentions
+pub mod Knowing
+pub mod Pruning
+pub mod Cutting
+pub mod Repeating
+pub mod Mentioned
+pub mod Taking
+pub mod Renumbering
