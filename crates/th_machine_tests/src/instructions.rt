@@ -259,7 +259,7 @@ fn add(into: &mut Vec<u8>, bytes: &[u8]) -> Result<(), AllocError> {
 
 // The class Act, whose onCreate has this code, an operand stack of ten slots and twelve locals.
 fn act(alloc: Global, code: &[u8]) -> Result<Vec<u8>, AllocError> {
-    let length = code.len() as u8;
+    let length = (code.len() % 256) as u8;
     let mut file = Vec::new(alloc);
     add(&mut file, HEAD)?;
     add(&mut file, &[0, 0, 0, length.wrapping_add(12), 0, 10, 0, 12])?;
