@@ -1,4 +1,5 @@
 pub mod Ranging
 pub mod Turning
 pub mod Restoring
+pub mod Holding
 pub mod Pairing
