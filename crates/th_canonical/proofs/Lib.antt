@@ -2,3 +2,4 @@ pub mod Ranging
 pub mod Turning
 pub mod Restoring
 pub mod Pairing
+pub mod Knowing
