@@ -3,3 +3,4 @@ pub mod Turning
 pub mod Restoring
 pub mod Holding
 pub mod Pairing
+pub mod Knowing
