@@ -1,7 +1,8 @@
 // A symbol that stands for others is narrowed to what all of them may stand for.
-ghost use Rattle.std.specs.Prelude.{◌≡◌, Some, filter, IfOk};
+ghost use Rattle.std.specs.Prelude.{ℕ, ◌≡◌, Some, filter, IfOk, IsTrue, MatchOption};
 ghost use Rattle.std.specs.List.{list_all};
 ghost use Rattle.th_base.specs.IdSet.{has};
+ghost use Rattle.th_linear.specs.Gathered.{name_of};
 ghost use Rattle.th_query.specs.Symbols.{symbol_at, sites_in, sites_of, null_in};
 ghost use Rattle.th_query.specs.Unified.{class_of, common_symbol as common_symbol_of, common_symbols as common_symbols_of};
 
@@ -9,12 +10,38 @@ use std::alloc::{AllocError, Global};
 use th_base::{IdSet, TryCopy};
 use th_query::{Query, Sites, Sym};
 
-// The symbols, each narrowed by those that it stands for.
-pub(crate) fn common_symbols(
+// The symbols, each narrowed by those that it stands for; none where that leaves them as they are, as
+// each stands for itself alone.
+#[tactic(auto, using(crate::proofs::Narrowed::symbols_stay))]
+pub(crate) fn narrowed(
     alloc: Global,
     names: &[u32],
     query: &Query,
-) -> Result<Vec<Sym>, AllocError>
+) -> Result<Option<Vec<Sym>>, AllocError>
+    ensures { IfOk result (λ made. MatchOption made (common_symbols_of names.now query.now 0 query.now.syms ≡ query.now.syms)
+        (λ all. all.items ≡ common_symbols_of names.now query.now 0 query.now.syms)) }
+{
+    if are_own(names) {
+        return Ok(None);
+    }
+    let all = common_symbols(alloc, names, query)?;
+    Ok(Some(all))
+}
+
+// Whether each symbol is its own name.
+fn are_own(names: &[u32]) -> bool
+    ensures { IsTrue result → (n : ℕ) → name_of names.now n ≡ n }
+{
+    for symbol in 0..names.len() {
+        if names[symbol] as usize != symbol {
+            return false;
+        }
+    }
+    true
+}
+
+// The symbols, each narrowed by those that it stands for.
+fn common_symbols(alloc: Global, names: &[u32], query: &Query) -> Result<Vec<Sym>, AllocError>
     ensures { IfOk result (λ all. all.items ≡ common_symbols_of names.now query.now 0 query.now.syms) }
 {
     let mut all = Vec::new(alloc);

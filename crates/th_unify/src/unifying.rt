@@ -1,13 +1,13 @@
 // The query with its symbols renamed, each key once, and each symbol narrowed by those it stands for.
-ghost use Rattle.std.specs.Prelude.{◌≡◌, ◌<◌, ◌^◌, length, IfOk};
+ghost use Rattle.std.specs.Prelude.{◌≡◌, ◌<◌, ◌^◌, length, IfOk, MatchOption};
 ghost use Rattle.th_query.specs.Unified.{IsUnified, firsts, unified_by as unified_by_of};
 ghost use Rattle.th_steps.specs.Named.{AreKnown};
 
 use crate::classes::names_of;
-use crate::narrowing::common_symbols;
+use crate::narrowing::narrowed;
 use std::alloc::{AllocError, Global};
 use th_base::{FieldId, Reg, Seq};
-use th_query::{Cell, Frame, Query};
+use th_query::{Cell, Frame, Query, Sym};
 use th_steps::{Alike, Renaming, Turn, keep_firsts, name, rename_facts, turn_all, turn_seq};
 
 /// The query with its symbols unified: where two facts have one key (a frame and a register, a static
@@ -27,14 +27,14 @@ pub fn unify(alloc: Global, query: Query) -> Result<Query, AllocError>
 fn unified_by(alloc: Global, renaming: Renaming, query: Query) -> Result<Query, AllocError>
     ensures { IfOk result (λ made. made ≡ unified_by_of renaming.names.items query) }
 {
-    let syms = common_symbols(alloc, renaming.names.as_slice(), &query)?;
+    let narrowed = narrowed(alloc, renaming.names.as_slice(), &query)?;
     let facts = rename_facts(alloc, renaming.names.as_slice(), query.facts.as_slice())?;
     let Query {
         frames,
         statics,
         cells,
         elems,
-        syms: _,
+        syms,
         diffs,
         facts: _,
     } = query;
@@ -45,10 +45,20 @@ fn unified_by(alloc: Global, renaming: Renaming, query: Query) -> Result<Query, 
         statics: first_of::<(FieldId, u32), ByStatic>(turn_seq(statics, &uniting.renaming)),
         cells: first_of::<Cell, ByCell>(turn_seq(cells, &uniting.renaming)),
         elems: turn_seq(elems, &uniting.renaming),
-        syms: Seq::from_vec(syms),
+        syms: narrowed_or(narrowed, syms),
         diffs: turn_seq(diffs, &uniting),
         facts: Seq::from_vec(facts),
     })
+}
+
+// The narrowed symbols, where there are any, else the symbols as they are.
+fn narrowed_or(narrowed: Option<Vec<Sym>>, syms: Seq<Sym>) -> Seq<Sym>
+    ensures { MatchOption narrowed (result ≡ syms) (λ all. result ≡ all.items) }
+{
+    match narrowed {
+        Some(all) => Seq::from_vec(all),
+        None => syms,
+    }
 }
 
 // Of items that are alike the first.
