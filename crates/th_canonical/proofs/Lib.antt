@@ -1,4 +1,6 @@
 pub mod Ranging
 pub mod Turning
 pub mod Restoring
+pub mod Holding
 pub mod Pairing
+pub mod Knowing

@@ -4,3 +4,4 @@ pub mod Members
 pub mod Stepping
 pub mod Greatest
 pub mod Rowing
+pub mod Ordered

@@ -20,7 +20,7 @@ abbrev pub IsBelow : List ℕ → List ℕ → Type 0
 IsBelow a b = slice_cmp nat_cmp a b ≡ Less
 
 -- the first numbers decide, or the rest does
-below_cases : (x y : ℕ) (xs ys : List ℕ) → IsBelow (x ∷ xs) (y ∷ ys) → (x < y) ⊎ ((x ≡ y) × IsBelow xs ys)
+pub below_cases : (x y : ℕ) (xs ys : List ℕ) → IsBelow (x ∷ xs) (y ∷ ys) → (x < y) ⊎ ((x ≡ y) × IsBelow xs ys)
 below_cases x y xs ys b = elim (cases_order x y) [
   | inl same ↦ inr (same, ap (λ o. ordering_then o (slice_cmp nat_cmp xs ys)) (nat_cmp_is x y Equal same) ∙ b)
   | inr apart ↦ elim apart [
@@ -32,7 +32,7 @@ below_cases x y xs ys b = elim (cases_order x y) [
     greater : Greater ≡ Less → ⊥
     greater e = cc
 
-below_places : {X : Type 0} (key : X → List ℕ) (xs : List X) (i j : ℕ) (d : X) → AscendBy key xs → i < j → j < length xs → IsBelow (key (get_or xs i d)) (key (get_or xs j d))
+pub below_places : {X : Type 0} (key : X → List ℕ) (xs : List X) (i j : ℕ) (d : X) → AscendBy key xs → i < j → j < length xs → IsBelow (key (get_or xs i d)) (key (get_or xs j d))
 unfolding IsStrictlySortedBy
 below_places key [] i j d a h l = absurd (omega (arith, l))
 below_places key (x ∷ xs) i zero d a h l = absurd (omega (arith, h))
@@ -69,17 +69,17 @@ only_at q (x ∷ xs) (suc i) d f =
 
 -- ---- cells
 
-before_cases : (s f : ℕ) (c : SiteId × FieldId × List ℕ) → cell_before s f c ≡ true → (c.0.0 < s) ⊎ ((c.0.0 ≡ s) × (c.1.0 < f))
+pub before_cases : (s f : ℕ) (c : SiteId × FieldId × List ℕ) → cell_before s f c ≡ true → (c.0.0 < s) ⊎ ((c.0.0 ≡ s) × (c.1.0 < f))
 before_cases s f c e = elim (or_cases (ltb c.0.0 s) (eqb c.0.0 s && ltb c.1.0 f) e) [
   | inl less ↦ inl (ltb-true c.0.0 s less)
   | inr next ↦ let p = and_parts (eqb c.0.0 s) (ltb c.1.0 f) next in inr (eqb-true c.0.0 s p.0, ltb-true c.1.0 f p.1)
 ]
 
-before_from : (s f : ℕ) (c : SiteId × FieldId × List ℕ) → (c.0.0 < s) ⊎ ((c.0.0 ≡ s) × (c.1.0 < f)) → cell_before s f c ≡ true
+pub before_from : (s f : ℕ) (c : SiteId × FieldId × List ℕ) → (c.0.0 < s) ⊎ ((c.0.0 ≡ s) × (c.1.0 < f)) → cell_before s f c ≡ true
 before_from s f c (inl less) = or_left (ltb c.0.0 s) _ (lt-ltb c.0.0 s less)
 before_from s f c (inr next) = or_right (ltb c.0.0 s) _ (and_from (eqb c.0.0 s) (ltb c.1.0 f) (eq-eqb c.0.0 s next.0) (lt-ltb c.1.0 f next.1))
 
-cells_below : (c d : SiteId × FieldId × List ℕ) → IsBelow (cell_key c) (cell_key d) → (c.0.0 < d.0.0) ⊎ ((c.0.0 ≡ d.0.0) × (c.1.0 < d.1.0))
+pub cells_below : (c d : SiteId × FieldId × List ℕ) → IsBelow (cell_key c) (cell_key d) → (c.0.0 < d.0.0) ⊎ ((c.0.0 ≡ d.0.0) × (c.1.0 < d.1.0))
 cells_below c d b = elim (below_cases c.0.0 d.0.0 (c.1.0 ∷ []) (d.1.0 ∷ []) b) [
   | inl less ↦ inl less
   | inr rest ↦ elim (below_cases c.1.0 d.1.0 [] [] rest.1) [ inl less ↦ inr (rest.0, less) | inr none ↦ absurd (equal none.1) ]

@@ -5,6 +5,7 @@ ghost use Rattle.th_ir.specs.FactSets.{AscendBy, cell_key, elem_key, set_at, set
 ghost use Rattle.th_ir.specs.WellFormed.{AreNumbered};
 ghost use Rattle.th_query.specs.Narrowed.{IsNarrowed, has_slot as site_has_slot, kept_sites};
 ghost use Rattle.th_query.specs.Symbols.{links as links_of, is_sure as is_surely};
+ghost use Rattle.th_narrow.specs.Kept.{KeepsRest};
 ghost use Rattle.th_narrow.specs.Made.{IsTableOf};
 ghost use Rattle.th_narrow.specs.Rounds.{AllRules, Bounds, Enforces, FrameBounds, Owners, kept_at, owns, register_set, static_set, sure_cell, sure_element, sure_links};
 
@@ -25,11 +26,11 @@ pub fn narrow(
     table: &SiteTable,
     query: Query,
 ) -> Result<Query, AllocError>
-    requires numbers { AreNumbered plan.now.hierarchy }
     requires table { IsTableOf plan.now table.now }
     requires cells { AscendBy cell_key plan.now.facts.cells }
     requires elems { AscendBy elem_key plan.now.facts.elems }
-    ensures { IfOk result (λ less. IsNarrowed plan.now.hierarchy plan.now.program (sets_of plan.now.facts) query less) }
+    ensures rest { IfOk result (λ less. KeepsRest query less) }
+    ensures narrowed { IfOk result (λ less. AreNumbered plan.now.hierarchy → IsNarrowed plan.now.hierarchy plan.now.program (sets_of plan.now.facts) query less) }
 {
     let links = all_links(alloc, &query)?;
     let Query {
@@ -72,11 +73,11 @@ fn narrow_symbols(
     links: &[(Link, bool)],
     syms: &mut [Sym],
 ) -> Result<(), AllocError>
-    requires numbers { AreNumbered plan.now.hierarchy }
     requires table { IsTableOf plan.now table.now }
     requires cells { AscendBy cell_key plan.now.facts.cells }
     requires elems { AscendBy elem_key plan.now.facts.elems }
-    ensures { OnOk result (Enforces (AllRules plan.now.hierarchy plan.now.program (sets_of plan.now.facts) frames.now statics.now links.now) syms.old syms.new) }
+    ensures { OnOk result (AreNumbered plan.now.hierarchy
+        → Enforces (AllRules plan.now.hierarchy plan.now.program (sets_of plan.now.facts) frames.now statics.now links.now) syms.old syms.new) }
 {
     keep_frames(alloc, plan.facts.regs.as_slice(), frames, syms)?;
     keep_statics(alloc, plan.facts.statics.as_slice(), statics, syms)?;
@@ -240,9 +241,8 @@ fn keep_owners(
     links: &[(Link, bool)],
     syms: &mut [Sym],
 ) -> Result<(), AllocError>
-    requires numbers { AreNumbered plan.now.hierarchy }
     requires table { IsTableOf plan.now table.now }
-    ensures { OnOk result (Enforces (Owners (site_has_slot plan.now.hierarchy plan.now.program) links.now) syms.old syms.new) }
+    ensures { OnOk result (AreNumbered plan.now.hierarchy → Enforces (Owners (site_has_slot plan.now.hierarchy plan.now.program) links.now) syms.old syms.new) }
 {
     for link in links {
         keep_owned(alloc, plan, table, link.0.slot, link.0.base, syms)?;
@@ -259,9 +259,8 @@ fn keep_owned(
     symbol: u32,
     syms: &mut [Sym],
 ) -> Result<(), AllocError>
-    requires numbers { AreNumbered plan.now.hierarchy }
     requires table { IsTableOf plan.now table.now }
-    ensures { OnOk result (syms.new ≡ kept_at symbol (owns plan.now.hierarchy plan.now.program slot) syms.old) }
+    ensures { OnOk result (AreNumbered plan.now.hierarchy → syms.new ≡ kept_at symbol (owns plan.now.hierarchy plan.now.program slot) syms.old) }
 {
     let sites = take_sites(alloc, syms, symbol)?;
     let kept = owned(plan, table, slot, sites);
@@ -271,9 +270,8 @@ fn keep_owned(
 
 // The sites that have the slot.
 fn owned(plan: &Plan, table: &SiteTable, slot: Slot, mut sites: IdSet) -> IdSet
-    requires numbers { AreNumbered plan.now.hierarchy }
     requires table { IsTableOf plan.now table.now }
-    ensures { result ≡ filter (owns plan.now.hierarchy plan.now.program slot) sites }
+    ensures { AreNumbered plan.now.hierarchy → result ≡ filter (owns plan.now.hierarchy plan.now.program slot) sites }
 {
     sites.keep(|site| has_slot(plan, table, *site, slot));
     sites

@@ -1,5 +1,5 @@
-// What a slot of a site's objects may hold, by the points-to facts.
-ghost use Rattle.std.specs.Prelude.{◌≡◌, ◌==◌, ◌&&◌};
+// What a slot of a site's objects may hold, by the points-to facts, and whether these are in order.
+ghost use Rattle.std.specs.Prelude.{◌≡◌, ◌==◌, ◌&&◌, ◌↔◌, IsTrue};
 ghost use Rattle.std.specs.List.{list_any};
 ghost use Rattle.th_base.specs.IdSet.{has};
 ghost use Rattle.th_ir.specs.FactSets.{AscendBy, cell_key, elem_key, sets_of};
@@ -7,8 +7,30 @@ ghost use Rattle.th_query.specs.Narrowed.{slot_has};
 ghost use Rattle.th_narrow.specs.Rows.{cell_before, elem_before};
 
 use th_base::{FieldId, IdSet, SiteId};
-use th_ir::Facts;
+use th_ir::{Facts, Plan};
 use th_query::Slot;
+
+/// Whether the cells and the elements of a plan's facts ascend, as `narrow` takes them. It goes over
+/// them once.
+pub fn are_sorted(plan: &Plan) -> bool
+    ensures { IsTrue result ↔ (AscendBy cell_key plan.now.facts.cells × AscendBy elem_key plan.now.facts.elems) }
+{
+    do_cells_ascend(plan.facts.cells.as_slice()) && do_elements_ascend(plan.facts.elems.as_slice())
+}
+
+// Whether cells ascend by site and field.
+fn do_cells_ascend(cells: &[(SiteId, FieldId, IdSet)]) -> bool
+    ensures { IsTrue result ↔ AscendBy cell_key cells.now }
+{
+    cells.is_sorted_by(|cell, next| is_cell_before(cell, next.0.0, next.1.0))
+}
+
+// Whether elements ascend by site.
+fn do_elements_ascend(elems: &[(SiteId, IdSet)]) -> bool
+    ensures { IsTrue result ↔ AscendBy elem_key elems.now }
+{
+    elems.is_sorted_by(|elem, next| is_elem_before(elem, next.0.0))
+}
 
 // Whether the slot of a site's objects may hold an object of the target, by binary search.
 pub(crate) fn may_hold(facts: &Facts, site: u32, slot: Slot, target: u32) -> bool

@@ -100,9 +100,8 @@ fn is_ref_array_text(text: &[u8]) -> bool
 
 // Whether the objects of a site have the slot.
 pub(crate) fn has_slot(plan: &Plan, table: &SiteTable, site: u32, slot: Slot) -> bool
-    requires numbers { AreNumbered plan.now.hierarchy }
     requires table { IsTableOf plan.now table.now }
-    ensures { result ≡ site_has_slot plan.now.hierarchy plan.now.program site slot }
+    ensures { AreNumbered plan.now.hierarchy → result ≡ site_has_slot plan.now.hierarchy plan.now.program site slot }
 {
     match slot {
         Slot::Field(field) => has_field(plan, table, site, field),
@@ -112,9 +111,8 @@ pub(crate) fn has_slot(plan: &Plan, table: &SiteTable, site: u32, slot: Slot) ->
 
 // Whether the objects of a site have the field.
 fn has_field(plan: &Plan, table: &SiteTable, site: u32, field: FieldId) -> bool
-    requires numbers { AreNumbered plan.now.hierarchy }
     requires table { IsTableOf plan.now table.now }
-    ensures { result ≡ site_has_field plan.now.hierarchy plan.now.program site field.0 }
+    ensures { AreNumbered plan.now.hierarchy → result ≡ site_has_field plan.now.hierarchy plan.now.program site field.0 }
 {
     match table.made_at(site) {
         Made::Object(class) => field != LENGTH && class_has(&plan.hierarchy, class, field),

@@ -1,5 +1,4 @@
-//! Tests of what is computed over programs in register form: flow, facts, summaries, graphs, paths
-//! and queries.
+//! Tests of what is computed over programs in register form: flow, facts, summaries, graphs and paths.
 //!
 //! Nothing stands on this crate. Expected values were worked out by hand from the definitions, never
 //! taken from the output.
@@ -15,8 +14,6 @@ mod least_paths;
 mod plans;
 #[cfg(test)]
 mod program_graphs;
-#[cfg(test)]
-mod queries;
 #[cfg(test)]
 mod register_form;
 #[cfg(test)]

@@ -23,7 +23,7 @@ mod turning;
 pub use firsts::{Alike, keep_firsts};
 pub use known::are_known;
 pub use limits::{limit, prune};
-pub use numbering::number;
+pub use numbering::{Renaming, name, number};
 pub use renaming::rename_facts;
 pub use settling::settle;
 pub use sorting::{Key, sort, sort_seq};

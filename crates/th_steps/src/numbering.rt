@@ -117,14 +117,15 @@ impl Turn<Frame> for Sorting {
     }
 }
 
-// The new number of each symbol.
+/// Gives each symbol the name that a list has for it; a symbol past the list keeps its own.
 #[derive(Drop)]
-pub(crate) struct Renaming {
+pub struct Renaming {
+    /// The name of each symbol, by number.
     pub names: Vec<u32>,
 }
 
-// The name of a symbol; one past the names keeps its own.
-fn name(names: &[u32], symbol: u32) -> u32
+/// The name of a symbol; one past the names keeps its own.
+pub fn name(names: &[u32], symbol: u32) -> u32
     ensures { result ≡ name_of names.now symbol }
 {
     match names.get(symbol as usize) {

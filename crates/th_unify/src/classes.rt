@@ -4,17 +4,19 @@ ghost use Rattle.std.specs.Prelude.{◌≡◌, ◌≢◌, ◌<◌, ◌^◌, ◌�
 ghost use Rattle.th_linear.specs.Gathered.{name_of};
 ghost use Rattle.th_query.specs.FromSets.{upto};
 ghost use Rattle.th_query.specs.Unified.{AreLeast};
+ghost use Rattle.th_steps.specs.Named.{AreKnown};
 ghost use Rattle.th_unify.specs.Classes.{AreNamedBelow, IsTable, IsUnequal, AllAgree, put_for as put_for_of, joined};
 ghost use Rattle.th_unify.specs.Classes.{Agree, AgreeWith, AgreeFrames, AgreeCell, AgreeCells, Clash, ClashWith, ClashFrames, ClashCell, ClashCells};
 
 use std::alloc::{AllocError, Global};
 use th_base::{FieldId, Same};
 use th_query::{Cell, Frame, Query};
+use th_steps::name;
 
 /// For each symbol of a query the least of those that are one with it, where facts with one key (a
 /// frame and a register, a static field, or a base and a field) make their symbols one.
 pub fn names_of(alloc: Global, query: &Query) -> Result<Vec<u32>, AllocError>
-    requires named { AreNamedBelow query.now (length query.now.syms) }
+    requires named { AreKnown query.now }
     requires few { length query.now.syms < 2 ^ 31 }
     ensures { IfOk result (λ names. AreLeast query.now names.items) }
 {
@@ -44,16 +46,6 @@ fn join_all(query: &Query, names: &mut [u32])
 {
     while let Some((s, t)) = clash(query, names) {
         join(names, s, t);
-    }
-}
-
-// The name of a symbol; one past the names keeps its own.
-pub(crate) fn name(names: &[u32], symbol: u32) -> u32
-    ensures { result ≡ name_of names.now symbol }
-{
-    match names.get(symbol as usize) {
-        Some(name) => *name,
-        None => symbol,
     }
 }
 
